@@ -1,0 +1,5 @@
+pub mod Signed
+pub mod Product
+pub mod Order
+pub mod Higher
+pub mod Lists

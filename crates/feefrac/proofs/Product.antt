@@ -1,0 +1,69 @@
+-- A product of two words, by digits of 32 bits, and the order of two such products. Assumes nothing.
+use mathlib.Core.Path.{_≡_, refl, sym, ap, _∙_}
+use mathlib.Core.Bool.{Bool, true, false}
+use Prim.Native.Nat.{ℕ, _+_, _*_, _/_, _%_, _≤_, _<_}
+use native.Mathlib.Nat.{add-mul, mul-comm, mul-right-comm, mul-le-mul, div-add-mod'}
+use native.Mathlib.Omega.{arith}
+use lib.Dec.{ltb}
+use borrow.Author.Tests.{ltb-true, ltb-false}
+use Rattle.feefrac.specs.Rate.{sizeOrder}
+use Rattle.feefrac.specs.Word.{value, Carry}
+use Rattle.feefrac.specs.declared.compare.Wide.{Wide}
+use Rattle.feefrac.specs.declared.Ordering.the-variants.{Less, Greater}
+use Rattle.feefrac.proofs.Order.{size-above, size-below, same-order}
+
+-- ---- a carry is what a wrapped sum lost
+
+module _ (s a r : ℕ) (k : Carry s a r) where
+  pub carry-small : r ≤ 1
+  carry-small = go (ltb s a) refl
+    where
+      go : (t : Bool) → ltb s a ≡ t → r ≤ 1
+      go true f = let one : r ≡ 1 = k .0 (ltb-true s a f) in omega arith
+      go false f = let none : r ≡ 0 = k .1 (ltb-false s a f) in omega arith
+
+  pub carried : (b : ℕ) → a < 18446744073709551616 → b < 18446744073709551616 → s ≡ (a + b) % 18446744073709551616
+      → 18446744073709551616 * r + s ≡ a + b
+  carried b ha hb e = go (ltb s a) refl
+    where
+      go : (t : Bool) → ltb s a ≡ t → 18446744073709551616 * r + s ≡ a + b
+      go true f = let one : r ≡ 1 = k .0 (ltb-true s a f) in omega (arith, ltb-true s a f)
+      go false f = let none : r ≡ 0 = k .1 (ltb-false s a f) in omega (arith, ltb-false s a f)
+
+-- ---- the digits of a product
+
+pub digit-product : {a b : ℕ} → a < 4294967296 → b < 4294967296 → a * b ≤ 18446744065119617025
+digit-product h k = mul-le-mul {n₂ = 4294967295} {m₂ = 4294967295} (omega arith) (omega arith)
+
+split : (x y : ℕ) → x * y ≡ 4294967296 * (x / 4294967296 * y) + x % 4294967296 * y
+split x y =
+    let q : ℕ = x / 4294967296 in
+    let r : ℕ = x % 4294967296 in
+    ap (λ (n : ℕ). n * y) (sym (div-add-mod' x 4294967296))
+    ∙ add-mul (q * 4294967296) r y
+    ∙ ap (λ (n : ℕ). n + r * y) (mul-right-comm q 4294967296 y ∙ mul-comm (q * y) 4294967296)
+
+-- a product as the sum of its digits' products, each at its place
+pub by-digits : (x y : ℕ) → x * y
+    ≡ 18446744073709551616 * (x / 4294967296 * (y / 4294967296)) + 4294967296 * (x / 4294967296 * (y % 4294967296))
+    + 4294967296 * (x % 4294967296 * (y / 4294967296)) + x % 4294967296 * (y % 4294967296)
+by-digits x y = omega (arith, split x y, right (x / 4294967296), right (x % 4294967296))
+  where
+    right : (n : ℕ) → n * y ≡ 4294967296 * (n * (y / 4294967296)) + n * (y % 4294967296)
+    right n = rw (mul-comm n y, mul-comm n (y / 4294967296), mul-comm n (y % 4294967296)) (split y n)
+
+-- ---- the order of two words is that of the high ones, then of the low ones
+
+module _ (a b : Wide) (ha : a .lo < 18446744073709551616) (hb : b .lo < 18446744073709551616) where
+  pub high-above : b .hi < a .hi → sizeOrder (value a) (value b) ≡ Greater
+  high-above h = size-above (omega arith)
+
+  pub high-below : a .hi < b .hi → sizeOrder (value a) (value b) ≡ Less
+  high-below h = size-below (omega arith)
+
+  pub high-same : a .hi ≤ b .hi → b .hi ≤ a .hi → sizeOrder (a .lo) (b .lo) ≡ sizeOrder (value a) (value b)
+  high-same h k = same-order (a .lo) (b .lo) (value a) (value b) (λ l. omega arith) (λ l. omega arith) (λ l. omega arith)
+
+-- three words of zero leave the fourth
+pub last-word : (a b : Wide) → a .hi ≡ 0 → a .lo ≡ 0 → b .hi ≡ 0 → b .lo ≡ value a + value b
+last-word a b p q r = omega arith
