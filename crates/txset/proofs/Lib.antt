@@ -1,0 +1,5 @@
+pub mod Below
+pub mod Bits
+pub mod Words
+pub mod Sets
+pub mod Walk

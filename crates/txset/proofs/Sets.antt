@@ -1,0 +1,135 @@
+-- Laws of specs/Sets.antt: sets by their members, and lists of sets. Assumes nothing.
+use mathlib.Core.Path.{_≡_, refl, sym, ap, _∙_}
+use mathlib.Core.Bool.{Bool, true, false, not, _&&_, _||_, Bool·not-not}
+use mathlib.Core.Logic.{_≢_, ⊎-elim}
+use mathlib.Core.List.{List}
+use Prim.Native.Nat.{ℕ, zero, suc, _^_, _≤_, _<_}
+use lib.Dec.{lit<}
+use lib.ListN.{length, length-set}
+use lib.Seq.{getD-set-same, getD-set-other}
+use native.Mathlib.Omega.{arith}
+use borrow.Author.Tests.{lt-ltb, not-true}
+use Rattle.txset.specs.declared.TxSet.{TxSet}
+use Rattle.txset.specs.Lists.{elem}
+use Rattle.txset.specs.Below.{anyFrom}
+use Rattle.txset.specs.Sets.{words, positions, isPosition, mem, members, size, isEmpty, isSubset, overlap, setAt, putAt}
+use Rattle.txset.proofs.Below.{clash, lt-or-ge, but-not, all-any, any-ext, none-at, at-none, all-at, at-all, list-ext, count-list}
+use Rattle.txset.proofs.Below.{elem-in, elem-out, ascending, list-ascending}
+use Rattle.txset.proofs.Words.{Fits, hasIn-past}
+
+-- a set's words are those of a machine
+pub words-fit : (s : TxSet) → s .word < 2 ^ 64 → Fits (words s)
+words-fit s h zero = h
+words-fit s h (suc j) = lit< tt
+
+-- a member is a position
+pub mem-past : (s : TxSet) (i : ℕ) → positions ≤ i → mem s i ≡ false
+unfolding mem
+mem-past s i h = hasIn-past (words s) i h
+
+pub mem-position : (s : TxSet) (i : ℕ) → mem s i ≡ true → i < positions
+mem-position s i h = ⊎-elim (λ l. l) (λ l. clash h (mem-past s i l)) (lt-or-ge i positions)
+
+-- so what is asked of a member need not ask whether it is a position
+pub mem-without : (s : TxSet) (i : ℕ) (b : Bool) → (mem s i && not (isPosition i && b)) ≡ (mem s i && not b)
+mem-without s i b = go (mem s i) refl
+  where
+    go : (m : Bool) → mem s i ≡ m → (m && not (isPosition i && b)) ≡ (m && not b)
+    go true e = ap (λ (p : Bool). not (p && b)) (lt-ltb i positions (mem-position s i e))
+    go false e = refl
+
+-- s is within t exactly if what is left of s without t is empty
+pub subset-empty : (s t d : TxSet) → ((i : ℕ) → mem d i ≡ (mem s i && not (mem t i))) → isEmpty d ≡ isSubset s t
+unfolding isEmpty isSubset
+subset-empty s t d h =
+    ap not (any-ext (mem d) (λ i. not (not (mem s i) || mem t i)) positions 0 (λ i a b. h i ∙ but-not (mem s i) (mem t i)))
+    ∙ sym (all-any (λ i. not (mem s i) || mem t i) positions 0)
+
+-- s and t overlap exactly if what they share is not empty
+pub overlap-empty : (s t d : TxSet) → ((i : ℕ) → mem d i ≡ (mem s i && mem t i)) → not (isEmpty d) ≡ overlap s t
+unfolding isEmpty overlap
+overlap-empty s t d h = Bool·not-not (anyFrom (mem d) positions 0) ∙ any-ext (mem d) (λ i. mem s i && mem t i) positions 0 (λ i a b. h i)
+
+-- ---- what the tests say of the members
+
+-- empty: no position is a member
+pub empty-mem : (s : TxSet) → isEmpty s ≡ true → (i : ℕ) → mem s i ≡ false
+unfolding isEmpty
+empty-mem s h i =
+    ⊎-elim (λ l. none-at (mem s) positions 0 (not-true (anyFrom (mem s) positions 0) h) i (omega arith) l) (λ l. mem-past s i l) (lt-or-ge i positions)
+
+pub mem-empty : (s : TxSet) → ((i : ℕ) → mem s i ≡ false) → isEmpty s ≡ true
+unfolding isEmpty
+mem-empty s h = ap not (at-none (mem s) positions 0 (λ i a b. h i))
+
+-- a subset: each member of s is one of t
+pub subset-mem : (s t : TxSet) → isSubset s t ≡ true → (i : ℕ) → mem s i ≡ true → mem t i ≡ true
+unfolding isSubset
+subset-mem s t h i m =
+    ap (λ (b : Bool). not b || mem t i) (sym m)
+    ∙ all-at (λ i. not (mem s i) || mem t i) positions 0 h i (omega arith) (mem-position s i m)
+
+pub mem-subset : (s t : TxSet) → ((i : ℕ) → mem s i ≡ true → mem t i ≡ true) → isSubset s t ≡ true
+unfolding isSubset
+mem-subset s t h = at-all (λ i. not (mem s i) || mem t i) positions 0 (λ i a b. go (mem s i) (mem t i) (h i))
+  where
+    go : (b c : Bool) → (b ≡ true → c ≡ true) → (not b || c) ≡ true
+    go true c e = e refl
+    go false c e = refl
+
+-- no overlap: no member of s is one of t
+pub disjoint-mem : (s t : TxSet) → overlap s t ≡ false → (i : ℕ) → mem s i ≡ true → mem t i ≡ false
+unfolding overlap
+disjoint-mem s t h i m =
+    ap (λ (b : Bool). b && mem t i) (sym m)
+    ∙ none-at (λ i. mem s i && mem t i) positions 0 h i (omega arith) (mem-position s i m)
+
+pub mem-disjoint : (s t : TxSet) → ((i : ℕ) → mem s i ≡ true → mem t i ≡ false) → overlap s t ≡ false
+unfolding overlap
+mem-disjoint s t h = at-none (λ i. mem s i && mem t i) positions 0 (λ i a b. go (mem s i) (mem t i) (h i))
+  where
+    go : (b c : Bool) → (b ≡ true → c ≡ false) → (b && c) ≡ false
+    go true c e = e refl
+    go false c e = refl
+
+-- ---- the list of the members
+
+-- sets with the same members have the same list, and the same size, which is its length
+pub members-ext : (s t : TxSet) → ((i : ℕ) → mem s i ≡ mem t i) → members s ≡ members t
+unfolding members
+members-ext s t h = list-ext (mem s) (mem t) positions 0 (λ i a b. h i)
+
+pub size-members : (s : TxSet) → size s ≡ length (members s)
+unfolding size members
+size-members s = count-list (mem s) positions 0
+
+pub size-ext : (s t : TxSet) → ((i : ℕ) → mem s i ≡ mem t i) → size s ≡ size t
+size-ext s t h = size-members s ∙ ap length (members-ext s t h) ∙ sym (size-members t)
+
+-- the list has the members, each above the one before it
+pub members-elem : (s : TxSet) (i : ℕ) → elem i (members s) ≡ mem s i
+unfolding members
+members-elem s i =
+    ⊎-elim
+    (λ l. elem-in (mem s) positions 0 i (omega arith) l)
+    (λ l. elem-out (mem s) positions 0 i (λ a b. omega arith) ∙ sym (mem-past s i l))
+    (lt-or-ge i positions)
+
+pub members-ascending : (s : TxSet) → ascending 0 (members s) ≡ true
+unfolding members
+members-ascending s = list-ascending (mem s) positions 0 0 (omega arith)
+
+-- ---- lists of sets
+
+-- the set put at i is read at i, the others stay, and so does their number
+pub put-same : (ws : List ℕ) (i : ℕ) (s : TxSet) → i < length ws → setAt (putAt ws i s) i ≡ s
+unfolding setAt putAt
+put-same ws i s h = ap {B = TxSet} (λ (w : ℕ). record { word = w }) (getD-set-same ws i (s .word) 0 h)
+
+pub put-other : (ws : List ℕ) (i j : ℕ) (s : TxSet) → i ≢ j → setAt (putAt ws i s) j ≡ setAt ws j
+unfolding setAt putAt
+put-other ws i j s n = ap {B = TxSet} (λ (w : ℕ). record { word = w }) (getD-set-other ws i j (s .word) 0 (λ e. n (sym e)))
+
+pub length-put : (ws : List ℕ) (i : ℕ) (s : TxSet) → length (putAt ws i s) ≡ length ws
+unfolding putAt
+length-put ws i s = length-set ws i (s .word)

@@ -1,0 +1,29 @@
+-- Lists of positions, tested element by element. Assumes nothing.
+use Prim.Native.Nat.{ℕ, max}
+use mathlib.Core.Bool.{Bool, true, false, not, _&&_, _||_}
+use mathlib.Core.List.{List, [], _∷_}
+use lib.Dec.{eqb, ltb}
+
+-- whether some element has the property
+unfoldable pub anyOf : {A : Type 0} → (A → Bool) → List A → Bool
+anyOf f [] = false
+anyOf f (x ∷ xs) = f x || anyOf f xs
+
+-- whether each element has it
+unfoldable pub allOf : {A : Type 0} → (A → Bool) → List A → Bool
+allOf f [] = true
+allOf f (x ∷ xs) = f x && allOf f xs
+
+-- whether i is in the list
+unfoldable pub elem : ℕ → List ℕ → Bool
+elem i xs = anyOf (eqb i) xs
+
+-- whether no element comes twice
+unfoldable pub distinct : List ℕ → Bool
+distinct [] = true
+distinct (x ∷ xs) = not (elem x xs) && distinct xs
+
+-- the highest element, 0 of none
+unfoldable pub highestOf : List ℕ → ℕ
+highestOf [] = 0
+highestOf (x ∷ xs) = max x (highestOf xs)
