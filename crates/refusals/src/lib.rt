@@ -1,0 +1,67 @@
+// What every call answers, and the range check that the cluster calls share.
+ghost use mathlib.Core.Path.{_≡_};
+ghost use Rattle.refusals.specs.Refusals.{refusal, success, inRange, firstOutside};
+
+// The refusals of document 01 that the cluster calls give.
+pub const LENGTHS_DIFFER: u64 = 1;
+
+pub const TOO_MANY_MEMBERS: u64 = 2;
+
+pub const OUT_OF_RANGE: u64 = 3;
+
+pub const CYCLE: u64 = 4;
+
+pub const NOT_AN_ORDER: u64 = 5;
+
+pub const ROOM_TOO_SHORT: u64 = 11;
+
+// 0 and the number of places written from the room's start, or the refusal's number and 0.
+pub struct Reply {
+    pub answer: u64,
+    pub written: usize,
+}
+
+impl Reply {
+    pub fn refused(number: u64) -> Reply
+        ensures { λ r. ⌜ r ≡ refusal number ⌝ }
+    {
+        Reply {
+            answer: number,
+            written: 0,
+        }
+    }
+
+    pub fn wrote(places: usize) -> Reply
+        ensures { λ r. ⌜ r ≡ success places ⌝ }
+    {
+        Reply {
+            answer: 0,
+            written: places,
+        }
+    }
+}
+
+// Whether a cluster member's fee is in its range.
+pub fn fee_in_range(fee: i64) -> bool
+    ensures { λ r. ⌜ r ≡ inRange fee ⌝ }
+{
+    if fee < -4_200_000_000_000_000 {
+        return false;
+    }
+    fee <= 4_200_000_000_000_000
+}
+
+// The lowest position whose fee is outside its range, or the number of fees.
+pub fn first_outside(fees: &[i64]) -> usize
+    ensures { λ r. ⌜ r ≡ firstOutside (now (fees .entry)) ⌝ }
+{
+    let mut i: usize = 0;
+    while i < fees.len() {
+        let fee = fees[i];
+        if !fee_in_range(fee) {
+            return i;
+        }
+        i += 1;
+    }
+    i
+}
