@@ -53,7 +53,7 @@ higher a b = ltZ (b .fee *ℤ pos (a .size)) (a .fee *ℤ pos (b .size))
 unfoldable pub rateOrder : FeeFrac → FeeFrac → Ordering
 rateOrder a b = pick (higher a b) Greater (pick (higher b a) Less Equal)
 
--- two sizes, the smaller one first
+-- how a number stands to another
 unfoldable pub sizeOrder : ℕ → ℕ → Ordering
 sizeOrder m n = pick (ltb n m) Greater (pick (ltb m n) Less Equal)
 

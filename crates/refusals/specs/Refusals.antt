@@ -19,7 +19,7 @@ pub record Line : Type 0 where
 abbrev pub line : ℕ → Bool → Line
 line k b = record { number = k; holds = b }
 
--- "in the stated order": the number of the first line whose condition holds; "0 is success"
+-- the number of the first line whose condition holds, in the order of the list; "0 is success"
 unfoldable pub answerOf : List Line → ℕ
 answerOf [] = 0
 answerOf (l ∷ ls) = pick (l .holds) (l .number) (answerOf ls)

@@ -1,0 +1,266 @@
+-- The steps of `DepGraph::new` on two lists of sets that hold one relation (`Holds`): the start, a turn and the end of each.
+-- Assumes nothing.
+use mathlib.Core.Path.{_≡_, refl, sym, ap, ap₂, _∙_}
+use mathlib.Core.Bool.{Bool, true, false, not, _&&_, _||_, and-true, and-false, and-comm, or-false, or-assoc, or-comm}
+use mathlib.Core.Logic.{⊎-elim}
+use mathlib.Core.List.{List}
+use Prim.Native.Nat.{ℕ, suc, _+_, _≤_, _<_}
+use native.Mathlib.Numerals.{add-one}
+use native.Mathlib.Omega.{arith}
+use lib.Dec.{eqb, ltb}
+use lib.ListN.{length, take, replicate}
+use lib.Seq.{take-length, take-all, length-take-le, getD-take}
+use borrow.Author.Tests.{lt-ltb, le-ltb, eq-eqb, ne-eqb, eqb-true}
+use Rattle.txset.specs.declared.TxSet.{TxSet}
+use Rattle.txset.specs.Below.{anyFrom}
+use Rattle.txset.specs.Sets.{positions, isPosition, mem, setAt, putAt}
+use Rattle.txset.proofs.Below.{lt-or-ge}
+use Rattle.txset.proofs.Sets.{mem-position, length-put}
+use Rattle.depgraph.specs.declared.DepGraph.{DepGraph}
+use Rattle.depgraph.specs.Closed.{Closed}
+use Rattle.depgraph.specs.Graph.{isParent, reach, isAbove, isAncestor, isCyclic}
+use Rattle.depgraph.specs.Steps.{Holds, nothing}
+use Rattle.depgraph.proofs.Joins.{by-position, at-zeros, Joined, joined-at, put-at, put-else}
+use Rattle.depgraph.proofs.Counts.{any-more}
+use Rattle.depgraph.proofs.Reach.{asked, parent-asked, above-both}
+
+-- below i + 1: i, and what is below i
+below-here : (i : ℕ) → ltb i (i + 1) ≡ true
+below-here i = lt-ltb i (i + 1) (omega arith)
+
+below-else : (j i : ℕ) → (i ≡ j → ⊥) → ltb j (i + 1) ≡ ltb j i
+below-else j i n =
+    ⊎-elim
+    (λ l. lt-ltb j (i + 1) (omega arith) ∙ sym (lt-ltb j i l))
+    (λ l. le-ltb j (i + 1) (⊎-elim (λ m. absurd (n (omega arith))) (λ m. m) (lt-or-ge j (i + 1))) ∙ sym (le-ltb j i l))
+    (lt-or-ge j i)
+
+eqb-sym : (a b : ℕ) → eqb a b ≡ eqb b a
+eqb-sym a b =
+    by-position (λ a. eqb a b ≡ eqb b a) b refl (λ a n. ne-eqb a b (λ e. n (sym e)) ∙ sym (ne-eqb b a n)) a
+
+-- the sets hold any relation that agrees
+pub holds-as : {f g : ℕ → ℕ → Bool} {up down : List ℕ} → Holds f up down → ((i a : ℕ) → f i a ≡ g i a) → Holds g up down
+holds-as h e =
+    record { ups = h .ups; downs = h .downs; above = λ i a. h .above i a ∙ e i a; below = λ i a. h .below i a ∙ e i a }
+
+-- ---- what goes in and what comes out
+
+-- n of the members are taken: as many as there are positions for
+pub record Taken (ws : List ℕ) (n : ℕ) : Type 0 where
+  pub there : n ≤ length ws
+  pub fits : n ≤ positions
+  pub same : take n ws ≡ take positions ws
+
+pub taken-some : (ws : List ℕ) → positions < length ws → Taken ws positions
+taken-some ws l = record { there = omega arith; fits = omega arith; same = refl }
+
+pub taken-all : (ws : List ℕ) → length ws ≤ positions → Taken ws (length ws)
+taken-all ws l = record { there = omega arith; fits = l; same = take-length ws ∙ sym (take-all positions ws l) }
+
+-- words of zeros hold nothing
+pub zeros-hold : Holds nothing (replicate positions 0) (replicate positions 0)
+zeros-hold = record { ups = refl; downs = refl; above = at-zeros positions; below = λ i a. at-zeros positions a i }
+
+-- the ancestors that are held make a graph
+pub closed-by : (ws : List ℕ) (n : ℕ) (g : DepGraph) → Taken ws n
+    → Holds (isAncestor (take n ws)) (g .ancestors) (g .descendants) × (g .cyclic ≡ isCyclic (take n ws)) → Closed (take positions ws) g
+closed-by ws n g t h =
+    rw (← t .same) (record { ancestors = h .0 .above; descendants = λ i d. h .0 .below d i; cyclic = h .1 })
+
+-- ---- link: the relation, of the members below i alone
+
+abbrev pub upTo : ℕ → (ℕ → ℕ → Bool) → ℕ → ℕ → Bool
+upTo i f j a = ltb j i && f j a
+
+pub link-start : (f : ℕ → ℕ → Bool) {up down : List ℕ} → Holds nothing up down → Holds (upTo 0 f) up down
+link-start f h = holds-as h (λ j a. ap (λ (b : Bool). b && f j a) (sym (le-ltb j 0 (omega arith))))
+
+pub link-turn : (f : ℕ → ℕ → Bool) (i : ℕ) (own single : TxSet) {up down up' down' : List ℕ} → i < positions
+    → ((a : ℕ) → mem own a ≡ f i a) → ((j : ℕ) → mem single j ≡ (isPosition j && eqb j i))
+    → up' ≡ putAt up i own → Joined own single down down' → Holds (upTo i f) up down → Holds (upTo (i + 1) f) up' down'
+link-turn f i own single {up} {down} {up'} {down'} l has-own has-i put join h =
+    rw put (record {
+      ups = length-put up i own ∙ h .ups;
+      downs = join .same ∙ h .downs;
+      above = λ j a.
+          by-position (λ j. mem (setAt (putAt up i own) j) a ≡ upTo (i + 1) f j a) i
+          (put-at up i own (omega (arith, h .ups)) a ∙ has-own a ∙ ap (λ (b : Bool). b && f i a) (sym (below-here i)))
+          (λ j n. put-else up i own j a n ∙ h .above j a ∙ ap (λ (b : Bool). b && f j a) (sym (below-else j i n)))
+          j;
+      below = λ j a.
+          joined-at (h .downs) join a j
+          ∙ ap₂ _||_ (h .below j a) (ap₂ _&&_ (has-own a) (has-i j))
+          ∙ by-position (λ j. (upTo i f j a || (f i a && (isPosition j && eqb j i))) ≡ upTo (i + 1) f j a) i
+          (rw (le-ltb i i (omega arith), lt-ltb i positions l, eq-eqb i i refl, below-here i) (and-true (f i a)))
+          (λ j n. rw (ne-eqb j i (λ e. n (sym e)), and-false (isPosition j), and-false (f i a), below-else j i n) (or-false (upTo i f j a)))
+          j;
+    })
+
+pub link-done : (ps : List ℕ) {up down : List ℕ} {i : ℕ} → length ps ≡ i → Holds (upTo i (isParent ps)) up down → Holds (isParent ps) up down
+link-done ps e h = holds-as h (λ j a. ap (λ (n : ℕ). upTo n (isParent ps) j a) (sym e) ∙ parent-asked ps j a)
+
+-- the parents of i among the first n: those that are named, less what is no position below n and less i itself
+parents-of : (m p l e : Bool) → (m ≡ true → p ≡ true) → ((m && (p && l)) && e) ≡ ((l && e) && m)
+parents-of true p l e h = ap (λ (b : Bool). (b && l) && e) (h refl) ∙ sym (and-true (l && e))
+parents-of false p l e h = sym (and-false (l && e))
+
+at-take : (n : ℕ) (ws : List ℕ) (i : ℕ) → i < n → setAt (take n ws) i ≡ setAt ws i
+unfolding setAt
+at-take n ws i l = ap {B = TxSet} (λ (w : ℕ). record { word = w }) (getD-take n ws i 0 l)
+
+pub own-parents : (ws : List ℕ) (n i : ℕ) {named : TxSet} (all met own : TxSet) → n ≤ length ws → i < n → named ≡ setAt ws i
+    → ((a : ℕ) → mem all a ≡ (isPosition a && ltb a n)) → ((a : ℕ) → mem met a ≡ (mem named a && mem all a))
+    → ((a : ℕ) → mem own a ≡ (mem met a && not (eqb a i))) → (a : ℕ) → mem own a ≡ isParent (take n ws) i a
+unfolding isParent
+own-parents ws n i {named} all met own fits l at has-all has-met has-own a =
+    has-own a
+    ∙ ap (λ (b : Bool). b && not (eqb a i)) (has-met a ∙ ap (λ (b : Bool). mem named a && b) (has-all a))
+    ∙ parents-of (mem named a) (isPosition a) (ltb a n) (not (eqb a i)) (λ e. lt-ltb a positions (mem-position named a e))
+    ∙ ap₂ (λ (k : ℕ) (s : TxSet). (ltb a k && not (eqb a i)) && mem s a) (sym (length-take-le n ws fits)) (at ∙ sym (at-take n ws i l))
+
+-- ---- close: the links by way of the members below k
+
+pub record Closing (up₀ down₀ up down : List ℕ) (k : ℕ) : Type 0 where
+  pub ups : length up ≡ length up₀
+  pub downs : length down ≡ length down₀
+  pub holds : (ps : List ℕ) → Holds (isParent ps) up₀ down₀ → Holds (reach ps k) up down
+
+pub close-start : (up down : List ℕ) → Closing up down up down 0
+unfolding reach
+close-start up down = record { ups = refl; downs = refl; holds = λ ps h. h }
+
+by-way : (ps : List ℕ) (k : ℕ) (over under : TxSet) {up down up' down' : List ℕ} → over ≡ setAt up k → under ≡ setAt down k
+    → Joined under over up up' → Joined over under down down' → Holds (reach ps k) up down → Holds (reach ps (suc k)) up' down'
+unfolding reach
+by-way ps k over under {up} {down} at-up at-down join-up join-down h =
+    let has-over : (a : ℕ) → mem over a ≡ reach ps k k a = λ a. ap (λ (s : TxSet). mem s a) at-up ∙ h .above k a in
+    let has-under : (i : ℕ) → mem under i ≡ reach ps k i k = λ i. ap (λ (s : TxSet). mem s i) at-down ∙ h .below i k in
+    record {
+      ups = join-up .same ∙ h .ups;
+      downs = join-down .same ∙ h .downs;
+      above = λ i a. joined-at (h .ups) join-up i a ∙ ap₂ _||_ (h .above i a) (ap₂ _&&_ (has-under i) (has-over a));
+      below = λ i a.
+          joined-at (h .downs) join-down a i
+          ∙ ap₂ _||_ (h .below i a) (ap₂ _&&_ (has-over a) (has-under i) ∙ and-comm (reach ps k k a) (reach ps k i k));
+    }
+
+pub close-turn : (k : ℕ) (over under : TxSet) {up₀ down₀ up down up' down' : List ℕ} → over ≡ setAt up k → under ≡ setAt down k
+    → Joined under over up up' → Joined over under down down' → Closing up₀ down₀ up down k → Closing up₀ down₀ up' down' (k + 1)
+close-turn k over under at-up at-down join-up join-down c =
+    record {
+      ups = join-up .same ∙ c .ups;
+      downs = join-down .same ∙ c .downs;
+      holds = λ ps h. rw add-one (by-way ps k over under at-up at-down join-up join-down (c .holds ps h));
+    }
+
+pub close-done : (ps : List ℕ) {up₀ down₀ up down : List ℕ} {k : ℕ} → length ps ≡ k → Closing up₀ down₀ up down k
+    → Holds (isParent ps) up₀ down₀ → Holds (isAbove ps) up down
+unfolding isAbove
+close-done ps e c h = holds-as (c .holds ps h) (λ i a. ap (λ (n : ℕ). reach ps n i a) (sym e))
+
+-- ---- include_self: the relation, with the own position of the members below i
+
+abbrev pub withOwn : ℕ → (ℕ → ℕ → Bool) → ℕ → ℕ → Bool
+withOwn i f j a = f j a || (ltb j i && eqb j a)
+
+own-more : (i j a : ℕ) → (ltb j i && eqb j a || eqb j i && eqb a i) ≡ (ltb j (i + 1) && eqb j a)
+own-more i j a =
+    by-position (λ j. (ltb j i && eqb j a || eqb j i && eqb a i) ≡ (ltb j (i + 1) && eqb j a)) i
+    (rw (le-ltb i i (omega arith), eq-eqb i i refl, below-here i) (eqb-sym a i))
+    (λ j n. rw (ne-eqb j i (λ e. n (sym e)), below-else j i n) (or-false (ltb j i && eqb j a)))
+    j
+
+-- the i-th set gains i
+pub record Own (i : ℕ) (old new : List ℕ) : Type 0 where
+  pub same : length new ≡ length old
+  pub has : i < length old → (j a : ℕ) → mem (setAt new j) a ≡ (mem (setAt old j) a || (eqb j i && eqb a i))
+
+pub own-put : {i : ℕ} {s : TxSet} (u : TxSet) {old new : List ℕ} → i < positions → s ≡ setAt old i
+    → ((a : ℕ) → mem u a ≡ (mem s a || (isPosition a && eqb a i))) → new ≡ putAt old i u → Own i old new
+own-put {i} u {old} l at has put =
+    rw put (record {
+      same = length-put old i u;
+      has = λ m j a.
+          by-position (λ j. mem (setAt (putAt old i u) j) a ≡ (mem (setAt old j) a || (eqb j i && eqb a i))) i
+          (put-at old i u m a ∙ has a
+          ∙ ap₂ (λ (t : TxSet) (b : Bool). mem t a || b) at
+          (asked (isPosition a) (eqb a i) (λ e. lt-ltb a positions (let z : a ≡ i = eqb-true a i e in omega arith))
+          ∙ ap (λ (b : Bool). b && eqb a i) (sym (eq-eqb i i refl))))
+          (λ j n.
+          put-else old i u j a n ∙ sym (or-false (mem (setAt old j) a))
+          ∙ ap (λ (b : Bool). mem (setAt old j) a || (b && eqb a i)) (sym (ne-eqb j i (λ e. n (sym e)))))
+          j;
+    })
+
+own-sets : (f : ℕ → ℕ → Bool) (i : ℕ) {up down up' down' : List ℕ} → i < positions → Own i up up' → Own i down down'
+    → Holds (withOwn i f) up down → Holds (withOwn (i + 1) f) up' down'
+own-sets f i l own-up own-down h =
+    let more : (j a : ℕ) → (withOwn i f j a || (eqb j i && eqb a i)) ≡ withOwn (i + 1) f j a = λ j a.
+    or-assoc (f j a) (ltb j i && eqb j a) (eqb j i && eqb a i) ∙ ap (λ (b : Bool). f j a || b) (own-more i j a) in
+    record {
+      ups = own-up .same ∙ h .ups;
+      downs = own-down .same ∙ h .downs;
+      above = λ j a. own-up .has (omega (arith, h .ups)) j a ∙ ap (λ (b : Bool). b || (eqb j i && eqb a i)) (h .above j a) ∙ more j a;
+      below = λ j a.
+          own-down .has (omega (arith, h .downs)) a j ∙ ap₂ _||_ (h .below j a) (and-comm (eqb a i) (eqb j i)) ∙ more j a;
+    }
+
+-- the sets, and whether one of the members below i is above itself
+pub record Owning (ps up down : List ℕ) (cyclic : Bool) (i : ℕ) : Type 0 where
+  pub sets : Holds (withOwn i (isAbove ps)) up down
+  pub cycle : cyclic ≡ anyFrom (λ j. isAbove ps j j) i 0
+
+pub record Including (up₀ down₀ up down : List ℕ) (cyclic : Bool) (i : ℕ) : Type 0 where
+  pub ups : length up ≡ length up₀
+  pub downs : length down ≡ length down₀
+  pub owning : (ps : List ℕ) → Holds (isAbove ps) up₀ down₀ → Owning ps up down cyclic i
+
+pub own-start : (up down : List ℕ) → Including up down up down false 0
+unfolding anyFrom
+own-start up down =
+    record {
+      ups = refl;
+      downs = refl;
+      owning = λ ps h.
+          record {
+            sets = holds-as h (λ j a. sym (or-false (isAbove ps j a))
+                ∙ ap (λ (b : Bool). isAbove ps j a || (b && eqb j a)) (sym (le-ltb j 0 (omega arith))));
+            cycle = refl;
+          };
+    }
+
+pub own-turn : (i : ℕ) {s : TxSet} {up₀ down₀ up down up' down' : List ℕ} {cyclic cyclic' : Bool} → i < positions → s ≡ setAt up i
+    → cyclic' ≡ (cyclic || mem s i) → Own i up up' → Own i down down'
+    → Including up₀ down₀ up down cyclic i → Including up₀ down₀ up' down' cyclic' (i + 1)
+own-turn i {s} l at cycle own-up own-down g =
+    record {
+      ups = own-up .same ∙ g .ups;
+      downs = own-down .same ∙ g .downs;
+      owning = λ ps h.
+          let o = g .owning ps h in
+          let itself : mem s i ≡ isAbove ps i i =
+          ap (λ (r : TxSet). mem r i) at ∙ o .sets .above i i
+          ∙ ap (λ (b : Bool). isAbove ps i i || (b && eqb i i)) (le-ltb i i (omega arith))
+          ∙ or-false (isAbove ps i i) in
+          record {
+            sets = own-sets (isAbove ps) i l own-up own-down (o .sets);
+            cycle = cycle ∙ ap₂ _||_ (o .cycle) itself ∙ sym (any-more (λ j. isAbove ps j j) i);
+          };
+    }
+
+-- at the end that is the ancestors
+ancestor-is : (l e r : Bool) → (r ≡ true → l ≡ true) → (r || (l && e)) ≡ (l && (e || r))
+ancestor-is true e r h = or-comm r e
+ancestor-is false e true h = sym (h refl)
+ancestor-is false e false h = refl
+
+pub own-done : (ps : List ℕ) {up₀ down₀ up down : List ℕ} {cyclic : Bool} {i : ℕ} → length ps ≡ i
+    → Including up₀ down₀ up down cyclic i → Holds (isAbove ps) up₀ down₀ → Holds (isAncestor ps) up down × (cyclic ≡ isCyclic ps)
+unfolding isAncestor isCyclic
+own-done ps e g h =
+    let o = rw (← e) at (g .owning ps h) in (
+      holds-as (o .sets) (λ j a.
+          ancestor-is (ltb j (length ps)) (eqb j a) (isAbove ps j a) (λ r. lt-ltb j (length ps) (above-both ps j a r .from))),
+      o .cycle,
+    )

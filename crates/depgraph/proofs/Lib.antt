@@ -1,0 +1,5 @@
+pub mod Joins
+pub mod Counts
+pub mod Reach
+pub mod Closure
+pub mod Theorems

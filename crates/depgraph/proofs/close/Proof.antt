@@ -1,0 +1,55 @@
+use Prim.Native.Nat.{_≤_, _-_}
+use native.Mathlib.Omega.{arith}
+use borrow.Author.Needs.{needs}
+use Rattle.depgraph.proofs.Closure.{Closing, close-start, close-turn, close-done}
+use Rattle.depgraph.proofs.close.Statement.{statement}
+use Rattle.depgraph.proofs.close.Tie as tie
+
+abbrev Inv-loop : tie.InvT-loop
+Inv-loop n ancestors₀ descendants₀ k₀ ancestors descendants k = (k ≤ n) × Closing ancestors₀ descendants₀ ancestors descendants k
+
+abbrev μ-loop : tie.MeasureT-loop
+μ-loop n ancestors₀ descendants₀ k₀ ancestors descendants k = n - k
+
+loop-holds : tie.Need-loop-holds Inv-loop μ-loop
+loop-holds c = (search needs, close-start _ _)
+
+loop-again : tie.Need-loop-again Inv-loop μ-loop
+loop-again c =
+    let join-down = c .before .before in
+    let join-up = join-down .before .before .before .before in
+    let at-down = join-up .before .before in
+    let at-up = at-down .before .before in
+    let head = at-up .before .before .before in (
+      search needs,
+      close-turn
+          (head .loop .k)
+          (at-up .at .result)
+          (at-down .at2 .result)
+          (at-up .at .ensures)
+          (at-down .at2 .ensures)
+          (record { same = join-up .join .kept .0; has = join-up .join .ensures })
+          (record { same = join-down .join2 .kept .0; has = join-down .join2 .ensures })
+          (head .loop .inv .1),
+    )
+
+returns : tie.Need-returns Inv-loop μ-loop
+returns c = λ ps e h. close-done ps (omega arith) (c .before .loop .inv .1) h
+
+pub close-spec : {M : Type 1} → statement M
+close-spec =
+    tie.close
+    (tie.spec
+    Inv-loop
+    μ-loop
+    loop-holds
+    (λ c κs. search needs)
+    (λ c κs. search needs)
+    (λ c κs. search needs)
+    (λ c κs. search needs)
+    (λ c. search needs)
+    (λ c. search needs)
+    loop-again
+    (λ c. search needs)
+    (λ c. search needs)
+    returns)

@@ -1,0 +1,91 @@
+use mathlib.Core.Path.{sym, _∙_}
+use Prim.Native.Nat.{_≤_, _-_}
+use native.Mathlib.Omega.{arith}
+use lib.ListN.{take}
+use lib.Seq.{length-take-le}
+use borrow.Author.Needs.{needs}
+use Rattle.depgraph.specs.Graph.{isParent}
+use Rattle.depgraph.specs.Steps.{Holds}
+use Rattle.depgraph.proofs.Closure.{upTo, link-start, link-turn, link-done, own-parents}
+use Rattle.depgraph.proofs.link.Statement.{statement}
+use Rattle.depgraph.proofs.link.Tie as tie
+
+abbrev Inv-loop : tie.InvT-loop
+Inv-loop parents n ancestors₀ descendants₀ all i₀ ancestors descendants i =
+    (i ≤ n) × Holds (upTo i (isParent (take n parents))) ancestors descendants
+
+abbrev μ-loop : tie.MeasureT-loop
+μ-loop parents n ancestors₀ descendants₀ all i₀ ancestors descendants i = n - i
+
+loop-holds : tie.Need-loop-holds Inv-loop μ-loop
+loop-holds c = (search needs, link-start _ (c .before .before .before .before .pre .1 .1))
+
+loop-again : tie.Need-loop-again Inv-loop μ-loop
+loop-again c =
+    let join = c .before .before in
+    let put = join .before .before .before .before .before in
+    let own = put .before .before in
+    let turn = own .before .before .before in
+    let head = turn .before in
+    let start = head .before .before .before .before .before in
+    let parents = start .args .parents .now in
+    let n = start .args .n in (
+      search needs,
+      link-turn
+          (isParent (take n parents))
+          (head .loop .i)
+          (own .remove .result)
+          (join .before .singleton .result)
+          (omega (arith, turn .loop-test .taken, start .pre .1 .0))
+          (own-parents
+          parents
+          n
+          (head .loop .i)
+          (head .before .full .result)
+          (own .before .intersection .result)
+          (own .remove .result)
+          (start .pre .0)
+          (turn .loop-test .taken)
+          (own .before .before .at .ensures)
+          (head .before .full .ensures)
+          (own .before .intersection .ensures)
+          (own .remove .ensures))
+          (join .before .singleton .ensures)
+          (put .put .ensures)
+          (record { same = join .join .kept .0; has = join .join .ensures })
+          (head .loop .inv .1),
+    )
+
+same-length : tie.Need-same-length Inv-loop μ-loop
+same-length c = c .before .loop .inv .1 .ups ∙ sym (c .before .before .before .before .before .before .pre .1 .1 .ups)
+
+same-length-2 : tie.Need-same-length-2 Inv-loop μ-loop
+same-length-2 c = c .before .loop .inv .1 .downs ∙ sym (c .before .before .before .before .before .before .pre .1 .1 .downs)
+
+returns : tie.Need-returns Inv-loop μ-loop
+returns c =
+    let start = c .before .before .before .before .before .before in
+    let parents = start .args .parents .now in
+    let n = start .args .n in
+    link-done (take n parents) (length-take-le n parents (start .pre .0) ∙ omega arith) (c .before .loop .inv .1)
+
+pub link-spec : {M : Type 1} → statement M
+link-spec =
+    tie.close
+    (tie.spec
+    Inv-loop
+    μ-loop
+    (λ c κs. search needs)
+    loop-holds
+    (λ c κs. search needs)
+    (λ c κs. search needs)
+    (λ c κs. search needs)
+    (λ c κs. search needs)
+    (λ c κs. search needs)
+    (λ c κs. search needs)
+    (λ c. search needs)
+    (λ c. search needs)
+    loop-again
+    same-length
+    same-length-2
+    returns)

@@ -1,0 +1,107 @@
+// Module 3 of document 01: the closure of a cluster's parent links.
+ghost use mathlib.Core.Path.{_≡_};
+ghost use mathlib.Core.Bool.{Bool, _&&_, _||_};
+ghost use Prim.Native.Nat.{ℕ, _≤_, _<_};
+ghost use lib.ListN.{length, take};
+ghost use mathlib.Core.List.{List};
+ghost use Rattle.txset.specs.Sets.{positions, mem, setAt};
+ghost use Rattle.depgraph.specs.Graph.{isParent, isAbove, isAncestor, isCyclic};
+ghost use Rattle.depgraph.specs.Closed.{Closed};
+ghost use Rattle.depgraph.specs.Steps.{Holds, nothing};
+use txset::TxSet;
+
+// A set of ancestors and one of descendants for each position, each with the position itself; empty past the members.
+// `cyclic` says whether some member is above itself.
+pub struct DepGraph {
+    pub ancestors: [u64; 64],
+    pub descendants: [u64; 64],
+    pub cyclic: bool,
+}
+
+impl DepGraph {
+    // The graph of the first 64 of the members with these parents.
+    pub fn new(parents: &[u64]) -> DepGraph
+        ensures { λ r. ⌜ Closed (take 64 (now (parents .entry))) r ⌝ }
+    {
+        let mut n = parents.len();
+        if 64 < n {
+            n = 64;
+        }
+        let mut ancestors = [0u64; 64];
+        let mut descendants = [0u64; 64];
+        link(parents, n, &mut ancestors, &mut descendants);
+        close(n, &mut ancestors, &mut descendants);
+        let cyclic = include_self(n, &mut ancestors, &mut descendants);
+        DepGraph {
+            ancestors,
+            descendants,
+            cyclic,
+        }
+    }
+}
+
+// Adds the members of `extra` to the i-th set for each i in `walk`.
+fn join(sets: &mut [u64], walk: TxSet, extra: TxSet)
+    ensures { λ _. ⌜ ((i a : ℕ) → i < length (now (sets .entry)) → mem (setAt (now (sets .exit)) i) a ≡ (mem (setAt (now (sets .entry)) i) a || (mem walk i && mem extra a))) ⌝ }
+{
+    let mut rest = walk;
+    while !rest.is_empty() {
+        let i = rest.lowest();
+        rest = rest.without_lowest();
+        TxSet::at(sets, i).union(extra).put(sets, i);
+    }
+}
+
+// Enters each member's parents, and the member with each of them.
+fn link(parents: &[u64], n: usize, ancestors: &mut [u64], descendants: &mut [u64])
+    requires { ⌜ n ≤ length (now parents) ⌝ }
+    requires { ⌜ n ≤ positions ⌝ }
+    requires { ⌜ Holds nothing (now ancestors) (now descendants) ⌝ }
+    ensures { λ _. ⌜ Holds (isParent (take n (now (parents .entry)))) (now (ancestors .exit)) (now (descendants .exit)) ⌝ }
+{
+    let all = TxSet::full(n);
+    let mut i: usize = 0;
+    while i < n {
+        let own = TxSet::at(parents, i).intersection(all).remove(i);
+        own.put(ancestors, i);
+        join(descendants, own, TxSet::singleton(i));
+        i += 1;
+    }
+}
+
+// Closes the links by way of one member after the other: who is below it gains all that is above it.
+fn close(n: usize, ancestors: &mut [u64], descendants: &mut [u64])
+    ensures { λ _. ⌜ ((ps : List ℕ) → length ps ≡ n
+        → Holds (isParent ps) (now (ancestors .entry)) (now (descendants .entry))
+        → Holds (isAbove ps) (now (ancestors .exit)) (now (descendants .exit))) ⌝ }
+{
+    let mut k: usize = 0;
+    while k < n {
+        let above = TxSet::at(ancestors, k);
+        let below = TxSet::at(descendants, k);
+        join(ancestors, below, above);
+        join(descendants, above, below);
+        k += 1;
+    }
+}
+
+// Adds each member to its own sets, and answers whether one was above itself.
+fn include_self(n: usize, ancestors: &mut [u64], descendants: &mut [u64]) -> bool
+    requires { ⌜ n ≤ positions ⌝ }
+    ensures { λ r. ⌜ ((ps : List ℕ) → length ps ≡ n
+        → Holds (isAbove ps) (now (ancestors .entry)) (now (descendants .entry))
+        → Holds (isAncestor ps) (now (ancestors .exit)) (now (descendants .exit)) × (r ≡ isCyclic ps)) ⌝ }
+{
+    let mut cyclic = false;
+    let mut i: usize = 0;
+    while i < n {
+        let above = TxSet::at(ancestors, i);
+        if above.contains(i) {
+            cyclic = true;
+        }
+        above.insert(i).put(ancestors, i);
+        TxSet::at(descendants, i).insert(i).put(descendants, i);
+        i += 1;
+    }
+    cyclic
+}
