@@ -7,6 +7,7 @@ use lib.ListN.{length}
 use lib.Dec.{eqb, ltb}
 use lib.IntN.{ℤ, pos, negsuc}
 use lib.Signed.{leZ}
+use Rattle.txset.specs.Lists.{allOf, distinct}
 use Rattle.txset.specs.Sets.{positions}
 use Rattle.feefrac.specs.Rate.{pick}
 use Rattle.refusals.specs.declared.Reply.{Reply}
@@ -67,3 +68,7 @@ firstOutside (f ∷ fs) = pick (inRange f) (suc (firstOutside fs)) 0
 -- 3: "a number above is outside its range"
 unfoldable pub anyOutside : List ℤ → Bool
 anyOutside fs = ltb (firstOutside fs) (length fs)
+
+-- 5: "a given order is not each position once": an order has as many entries as there are members, each a position, none twice
+unfoldable pub isOrder : ℕ → List ℕ → Bool
+isOrder n order = eqb (length order) n && (allOf (λ p. ltb p n) order && distinct order)

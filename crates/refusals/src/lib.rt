@@ -1,6 +1,11 @@
-// What every call answers, and the range check that the cluster calls share.
+// What every call answers, and the checks of ranges and orders that the cluster calls share.
 ghost use mathlib.Core.Path.{_≡_};
-ghost use Rattle.refusals.specs.Refusals.{refusal, success, inRange, firstOutside};
+ghost use mathlib.Core.Bool.{_&&_};
+ghost use lib.Dec.{leb};
+ghost use Rattle.txset.specs.Sets.{positions};
+ghost use Rattle.refusals.specs.Refusals.{refusal, success, inRange, firstOutside, isOrder};
+use txset::POSITIONS;
+use txset::TxSet;
 
 // The refusals of document 01 that the cluster calls give.
 pub const LENGTHS_DIFFER: u64 = 1;
@@ -64,4 +69,30 @@ pub fn first_outside(fees: &[i64]) -> usize
         i += 1;
     }
     i
+}
+
+// Whether a list has each of the positions 0..n-1 once; false where n is above 64.
+pub fn is_order(n: usize, order: &[usize]) -> bool
+    ensures { λ r. ⌜ r ≡ (leb n positions && isOrder n (now (order .entry))) ⌝ }
+{
+    if POSITIONS < n {
+        return false;
+    }
+    if order.len() != n {
+        return false;
+    }
+    let mut seen = TxSet::empty();
+    let mut i: usize = 0;
+    while i < n {
+        let p = order[i];
+        if n <= p {
+            return false;
+        }
+        if seen.contains(p) {
+            return false;
+        }
+        seen = seen.insert(p);
+        i += 1;
+    }
+    true
 }

@@ -3,3 +3,6 @@ pub mod Bits
 pub mod Words
 pub mod Sets
 pub mod Walk
+pub mod Lists
+pub mod Ranges
+pub mod Bools

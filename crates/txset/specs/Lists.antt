@@ -27,3 +27,10 @@ distinct (x ∷ xs) = not (elem x xs) && distinct xs
 unfoldable pub highestOf : List ℕ → ℕ
 highestOf [] = 0
 highestOf (x ∷ xs) = max x (highestOf xs)
+
+-- whether two lists are the same
+unfoldable pub same : List ℕ → List ℕ → Bool
+same [] [] = true
+same [] (y ∷ ys) = false
+same (x ∷ xs) [] = false
+same (x ∷ xs) (y ∷ ys) = eqb x y && same xs ys

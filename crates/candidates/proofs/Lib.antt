@@ -1,0 +1,6 @@
+pub mod Ancestors
+pub mod Sums
+pub mod Append
+pub mod Rounds
+pub mod Kept
+pub mod Theorems

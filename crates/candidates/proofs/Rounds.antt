@@ -1,0 +1,306 @@
+-- The rounds of specs/Candidates.antt as the code runs them. Assumes nothing.
+use mathlib.Core.Path.{_≡_, refl, sym, ap, ap₂, _∙_}
+use mathlib.Core.Bool.{Bool, true, false, not, _&&_, _||_, and-true, and-false, and-comm}
+use mathlib.Core.List.{List, [], _∷_, _++_, append-assoc, append-nil}
+use Prim.Native.Nat.{ℕ, zero, suc, _+_, _-_, _≤_, _<_}
+use native.Mathlib.Omega.{arith}
+use lib.Dec.{ltb, leb}
+use lib.IntN.{ℤ}
+use lib.ListN.{length, take, drop, length-append}
+use lib.Seq.{take-at, drop-at, drop-append-add, drop-drop}
+use borrow.Author.Tests.{lt-ltb, ltb-true, lt-leb, le-leb}
+use Rattle.feefrac.specs.declared.FeeFrac.{FeeFrac}
+use Rattle.feefrac.specs.Rate.{rateAt, rankOrder, isGreater}
+use Rattle.txset.specs.declared.TxSet.{TxSet}
+use Rattle.txset.specs.Below.{bit, countFrom, listFrom}
+use Rattle.txset.specs.Lists.{elem, anyOf}
+use Rattle.txset.specs.Sets.{positions, isPosition, mem, members, size, isEmpty, setAt}
+use Rattle.txset.proofs.Sets.{members-elem, size-members}
+use Rattle.txset.proofs.Walk.{walk-done}
+use Rattle.feeset.specs.Total.{total}
+use Rattle.feeset.specs.Scan.{best, ranksAbove}
+use Rattle.candidates.specs.Candidates.{givenBack, ancestorSum, remaining, candidate, remainingAncestors, fewerAncestors}
+use Rattle.candidates.specs.Candidates.{appendAncestors, appendFor, rounds, ancestorOrder, fits, written, filled}
+use Rattle.candidates.specs.Steps.{ancestorIn, fewerIn, sorted, Appended}
+use Rattle.txset.proofs.Bools.{and-left}
+use Rattle.txset.proofs.Lists.{elem-append, without-append}
+use Rattle.txset.proofs.Ranges.{list-below, count-below, count-le, count-parts}
+use Rattle.feeset.proofs.Scan.{best-ext}
+use Rattle.candidates.proofs.Sums.{back-append}
+
+-- all members are out: nothing more is taken
+pub rounds-none : (fs : List ℤ) (ss : List ℕ) (n : ℕ) (anc : ℕ → ℕ → Bool) (k : ℕ) (out : List ℕ) → remaining n out ≡ []
+    → rounds fs ss n anc k out ≡ out
+unfolding rounds candidate appendFor best
+rounds-none fs ss n anc zero out e = refl
+rounds-none fs ss n anc (suc k) out e =
+    ap (λ (l : List ℕ). rounds fs ss n anc k (appendFor n anc out (best (ranksAbove (ancestorSum fs ss n anc out)) l))) e
+    ∙ rounds-none fs ss n anc k out e
+
+-- whether a is an ancestor of i, in sets given by words
+abbrev pub anc : List ℕ → ℕ → ℕ → Bool
+anc ws i = mem (setAt ws i)
+
+-- the members are the first n positions, and the sets are given by words
+module _ (ws : List ℕ) (n : ℕ) (few : n ≤ positions) (all : TxSet) (full : (i : ℕ) → mem all i ≡ (isPosition i && ltb i n)) where
+  -- a member
+  pub all-mem : (i : ℕ) → mem all i ≡ ltb i n
+  all-mem i = full i ∙ go (ltb i n) refl
+    where
+      go : (b : Bool) → ltb i n ≡ b → (isPosition i && ltb i n) ≡ ltb i n
+      go true e = let l : i < n = ltb-true i n e in ap (λ (b : Bool). b && ltb i n) (lt-ltb i positions (omega arith))
+      go false e = rw e (and-false (isPosition i))
+
+  -- an ancestor
+  in-all : (i a : ℕ) → ancestorIn ws all i a ≡ (ltb a n && anc ws i a)
+  unfolding ancestorIn
+  in-all i a = ap (λ (b : Bool). anc ws i a && b) (all-mem a) ∙ and-comm (anc ws i a) (ltb a n)
+
+  -- the ancestors that the code counts
+  pub ancestors-below : (i : ℕ) → listFrom (ancestorIn ws all i) positions 0 ≡ listFrom (anc ws i) n 0
+  ancestors-below i = list-below (ancestorIn ws all i) (anc ws i) n positions few (in-all i)
+
+  pub fewer-below : (x y : ℕ) → fewerIn ws all x y ≡ fewerAncestors n (anc ws) x y
+  unfolding fewerIn fewerAncestors
+  fewer-below x y = ap₂ ltb (counted x) (counted y)
+    where
+      counted : (i : ℕ) → countFrom (ancestorIn ws all i) positions 0 ≡ countFrom (anc ws i) n 0
+      counted i = count-below (ancestorIn ws all i) (anc ws i) n positions few (in-all i)
+
+  -- there are no more than n
+  pub size-all : size all ≤ n
+  unfolding size
+  size-all =
+      let e : countFrom (mem all) positions 0 ≡ countFrom (λ i. true) n 0 =
+      count-below (mem all) (λ i. true) n positions few (λ i. all-mem i ∙ sym (and-true (ltb i n))) in
+      omega (arith, e, count-le (λ i. true) n 0)
+
+-- the loop of `ancestor_order`: `out` are out, in their order, at the start of `order`, and `todo` are left
+pub record Taking
+    (fs : List ℤ)
+    (ss ws : List ℕ)
+    (n : ℕ)
+    (room order : List ℕ)
+    (feesums : List ℤ)
+    (sizesums : List ℕ)
+    (todo : TxSet)
+    (len round : ℕ) : Type 0 where
+  pub out : List ℕ
+  pub goes : rounds fs ss n (anc ws) (n - round) out ≡ rounds fs ss n (anc ws) n []
+  pub upto : round ≤ n
+  pub count : len ≡ length out
+  pub sum : len + size todo ≤ n
+  pub left : (i : ℕ) → mem todo i ≡ (ltb i n && not (elem i out))
+  pub sums : (i : ℕ) → mem todo i ≡ true → rateAt feesums sizesums i ≡ ancestorSum fs ss n (anc ws) out i
+  pub fees : length feesums ≡ positions
+  pub sizes : length sizesums ≡ positions
+  pub are : order ≡ out ++ drop len room
+  pub long : length order ≡ length room
+
+module _
+    (fs : List ℤ)
+    (ss ws : List ℕ)
+    (n : ℕ)
+    (few : n ≤ positions)
+    (all : TxSet)
+    (full : (i : ℕ) → mem all i ≡ (isPosition i && ltb i n))
+    (room : List ℕ) where
+  -- at first nothing is out
+  pub take-start : (feesums : List ℤ) (sizesums : List ℕ) → length feesums ≡ positions → length sizesums ≡ positions
+      → ((i : ℕ) → i < n → rateAt feesums sizesums i ≡ total fs ss (listFrom (ancestorIn ws all i) positions 0))
+      → Taking fs ss ws n room room feesums sizesums all 0 0
+  unfolding ancestorSum givenBack elem anyOf
+  take-start feesums sizesums a b e = record {
+    out = [];
+    goes = ap (λ (k : ℕ). rounds fs ss n (anc ws) k []) (omega arith);
+    upto = omega arith;
+    count = refl;
+    sum = omega (arith, size-all ws n few all full);
+    left = λ i. all-mem ws n few all full i ∙ sym (and-true (ltb i n));
+    sums = λ i m. e i (ltb-true i n (sym (all-mem ws n few all full i) ∙ m)) ∙ ap (total fs ss) (ancestors-below ws n few all full i);
+    fees = a;
+    sizes = b;
+    are = refl;
+    long = refl;
+  }
+
+  module _
+      (order : List ℕ)
+      (feesums : List ℤ)
+      (sizesums : List ℕ)
+      (todo : TxSet)
+      (len round : ℕ)
+      (h : Taking fs ss ws n room order feesums sizesums todo len round) where
+    -- what is left is what remains
+    todo-members : members todo ≡ remaining n (h .out)
+    unfolding members remaining
+    todo-members = list-below (mem todo) (λ i. not (elem i (h .out))) n positions few (h .left)
+
+    -- after n rounds, or when nothing is left, all that is to be taken is out
+    pub take-stop : n ≤ round → h .out ≡ rounds fs ss n (anc ws) n []
+    unfolding rounds
+    take-stop l = let e : n - round ≡ 0 = omega arith in ap (λ (k : ℕ). rounds fs ss n (anc ws) k (h .out)) (sym e) ∙ h .goes
+
+    pub take-empty : isEmpty todo ≡ true → h .out ≡ rounds fs ss n (anc ws) n []
+    take-empty e = sym (rounds-none fs ss n (anc ws) (n - round) (h .out) (sym todo-members ∙ walk-done todo e)) ∙ h .goes
+
+    -- the candidate of the definition is that of the code
+    candidate-is : candidate fs ss n (anc ws) (h .out) ≡ best (ranksAbove (rateAt feesums sizesums)) (members todo)
+    unfolding candidate ranksAbove
+    candidate-is =
+        ap (best (ranksAbove (ancestorSum fs ss n (anc ws) (h .out)))) (sym todo-members)
+        ∙ best-ext _ _ (members todo) (λ x y p q. ap₂ (λ (a b : FeeFrac). isGreater (rankOrder a b)) (sym (sum-of x p)) (sym (sum-of y q)))
+      where
+        sum-of : (x : ℕ) → elem x (members todo) ≡ true → rateAt feesums sizesums x ≡ ancestorSum fs ss n (anc ws) (h .out) x
+        sum-of x p = h .sums x (sym (members-elem todo x) ∙ p)
+
+    -- t is taken: `at` is its set, `some` its ancestors that are left, and `rest` what is left without them
+    module _
+        (t : ℕ)
+        (at some rest : TxSet)
+        (best-is : best (ranksAbove (rateAt feesums sizesums)) (members todo) ≡ t ∷ [])
+        (at-is : at ≡ setAt ws t)
+        (shared : (i : ℕ) → mem some i ≡ (mem at i && mem todo i))
+        (without : (i : ℕ) → mem rest i ≡ (mem todo i && not (mem some i))) where
+      -- the ones of `some` that are not in `gone` are the ancestors that are not out
+      some-left : (gone : List ℕ) (a : ℕ) → (mem some a && not (elem a gone)) ≡ (ltb a n && (anc ws t a && not (elem a (h .out ++ gone))))
+      some-left gone a =
+          ap (λ (b : Bool). b && not (elem a gone)) (shared a ∙ ap₂ _&&_ (ap (λ (s : TxSet). mem s a) at-is) (h .left a))
+          ∙ go (anc ws t a) (ltb a n) (elem a (h .out)) (elem a gone)
+          ∙ ap (λ (b : Bool). ltb a n && (anc ws t a && not b)) (sym (elem-append a (h .out) gone))
+        where
+          go : (x l o g : Bool) → ((x && (l && not o)) && not g) ≡ (l && (x && not (o || g)))
+          go true true true g = refl
+          go true true false g = refl
+          go true false o g = refl
+          go false true o g = refl
+          go false false o g = refl
+
+      -- appending them one by one is appending them after what is out
+      appends : (k : ℕ) (gone : List ℕ)
+          → appendAncestors n (anc ws) t k (h .out ++ gone) ≡ h .out ++ sorted (fewerIn ws all) (mem some) k gone
+      unfolding appendAncestors sorted remainingAncestors
+      appends zero gone = refl
+      appends (suc k) gone =
+          let left = listFrom (λ a. mem some a && not (elem a gone)) positions 0 in
+          let e : best (fewerAncestors n (anc ws)) (remainingAncestors n (anc ws) t (h .out ++ gone)) ≡ best (fewerIn ws all) left =
+          ap (best (fewerAncestors n (anc ws))) (sym (list-below _ _ n positions few (some-left gone)))
+          ∙ best-ext _ _ left (λ x y _ _. sym (fewer-below ws n few all full x y)) in
+          ap (appendAncestors n (anc ws) t k)
+          (append-assoc (h .out) gone _ ∙ ap (λ (l : List ℕ). h .out ++ (gone ++ l)) e)
+          ∙ appends k (gone ++ best (fewerIn ws all) left)
+
+      some-members : members some ≡ remainingAncestors n (anc ws) t (h .out)
+      unfolding members remainingAncestors elem anyOf
+      some-members =
+          list-below (mem some) (λ a. anc ws t a && not (elem a (h .out))) n positions few
+          (λ a.
+          sym (and-true (mem some a)) ∙ some-left [] a
+          ∙ ap (λ (l : List ℕ). ltb a n && (anc ws t a && not (elem a l))) (append-nil (h .out)))
+
+      -- so a round appends them
+      appended : appendFor n (anc ws) (h .out) (candidate fs ss n (anc ws) (h .out)) ≡ h .out ++ sorted (fewerIn ws all) (mem some) (size some) []
+      unfolding appendFor
+      appended =
+          ap (appendFor n (anc ws) (h .out)) (candidate-is ∙ best-is)
+          ∙ ap₂ (appendAncestors n (anc ws) t) (sym (size-members some ∙ ap length some-members)) (sym (append-nil (h .out)))
+          ∙ appends (size some) []
+
+      -- the rest and they are what was left
+      parts : size todo ≡ size some + size rest
+      unfolding size
+      parts = count-parts (mem todo) (mem some) (mem rest) positions 0 (λ j. rw (without j, shared j) (go (mem at j) (mem todo j)))
+        where
+          go : (a b : Bool) → bit b ≡ bit (a && b) + bit (b && not (a && b))
+          go true true = refl
+          go true false = refl
+          go false true = refl
+          go false false = refl
+
+      -- there is room for them
+      pub take-room : n ≤ length room → len + size some ≤ length order
+      take-room l = omega (arith, parts, h .sum, h .long)
+
+      module _
+          (last : List ℕ)
+          (end : ℕ)
+          (app : Appended (fewerIn ws all) some order last len end)
+          (kept : length last ≡ length order) where
+        new : List ℕ
+        new = sorted (fewerIn ws all) (mem some) (size some) []
+
+        front : take len order ≡ h .out
+        front = ap (take len) (h .are) ∙ take-at (h .out) (drop len room) len (sym (h .count))
+
+        -- what was appended is the part of the order from `len` to `end`
+        gone-is : take (end - len) (drop len last) ≡ new
+        unfolding new
+        gone-is =
+            let e : drop len last ≡ new ++ drop end order =
+            ap (drop len) (app .are) ∙ drop-at (take len order) (new ++ drop end order) len (ap length front ∙ sym (h .count)) in
+            ap (take (end - len)) e ∙ take-at new (drop end order) (end - len) (app .many ∙ omega (arith, app .ends))
+
+        -- and what stands behind it has not changed
+        behind : drop end order ≡ drop end room
+        behind =
+            let e : end ≡ length (h .out) + size some = omega (arith, app .ends, h .count) in
+            let d : len + size some ≡ end = sym (app .ends) in
+            ap₂ drop e (h .are) ∙ drop-append-add (h .out) (drop len room) (size some) ∙ drop-drop (size some) len room
+            ∙ ap (λ (k : ℕ). drop k room) d
+
+        -- one round
+        pub take-turn : (feesums' : List ℤ) (sizesums' : List ℕ) → length feesums' ≡ positions → length sizesums' ≡ positions → round < n
+            → ((i : ℕ) → mem rest i ≡ true
+            → rateAt feesums' sizesums' i ≡ givenBack fs ss (anc ws i) (rateAt feesums sizesums i) (take (end - len) (drop len last)))
+            → Taking fs ss ws n room last feesums' sizesums' rest end (round + 1)
+        unfolding ancestorSum rounds new
+        take-turn feesums' sizesums' a b l back =
+            let many : length new ≡ size some = app .many in
+            let next : n - round ≡ suc (n - (round + 1)) = omega arith in
+            record {
+              out = h .out ++ new;
+              goes =
+                  ap (rounds fs ss n (anc ws) (n - (round + 1))) (sym appended)
+                  ∙ ap (λ (k : ℕ). rounds fs ss n (anc ws) k (h .out)) (sym next)
+                  ∙ h .goes;
+              upto = omega arith;
+              count = rw length-append (omega (arith, app .ends, h .count));
+              sum = omega (arith, parts, app .ends, h .sum);
+              left = λ i.
+                  without i ∙ ap₂ (λ (b c : Bool). b && not c) (h .left i) (sym (app .holds i)) ∙ without-append (ltb i n) i (h .out) new;
+              sums = λ i m.
+                  back i m
+                  ∙ ap₂ (givenBack fs ss (anc ws i)) (h .sums i (and-left (mem todo i) (not (mem some i)) (sym (without i) ∙ m))) gone-is
+                  ∙ sym (back-append fs ss (anc ws i) (total fs ss (listFrom (anc ws i) n 0)) (h .out) new);
+              fees = a;
+              sizes = b;
+              are =
+                  app .are ∙ ap₂ (λ (x y : List ℕ). x ++ (new ++ y)) front behind ∙ sym (append-assoc (h .out) new (drop end room));
+              long = kept ∙ h .long;
+            }
+
+-- ---- what the function promises
+
+-- too many members, or too few places: nothing is written
+pub unfit : (fs : List ℤ) (ss : List ℕ) (a : ℕ → ℕ → Bool) (room : List ℕ) → fits fs room ≡ false
+    → (0 ≡ written fs ss a room) × (room ≡ filled fs ss a room)
+unfolding written filled
+unfit fs ss a room e = (rw e, rw e)
+
+pub many-unfit : (fs : List ℤ) (room : List ℕ) → positions < length fs → fits fs room ≡ false
+unfolding fits
+many-unfit fs room l = rw (lt-leb (length fs) positions l)
+
+pub narrow-unfit : (fs : List ℤ) (room : List ℕ) → length room < length fs → fits fs room ≡ false
+unfolding fits
+narrow-unfit fs room l = rw (lt-leb (length fs) (length room) l) (and-false (leb (length fs) positions))
+
+-- else all that was taken
+pub fit : {fs : List ℤ} {ss ws room order : List ℕ} {feesums : List ℤ} {sizesums : List ℕ} {todo : TxSet} {len round : ℕ}
+    → (h : Taking fs ss ws (length fs) room order feesums sizesums todo len round) → length fs ≤ positions → length fs ≤ length room
+    → h .out ≡ rounds fs ss (length fs) (anc ws) (length fs) [] → (len ≡ written fs ss (anc ws) room) × (order ≡ filled fs ss (anc ws) room)
+unfolding written filled fits ancestorOrder
+fit {fs} {room = room} {len = len} h a b e =
+    let t : (leb (length fs) positions && leb (length fs) (length room)) ≡ true =
+    ap₂ _&&_ (le-leb (length fs) positions a) (le-leb (length fs) (length room) b) in
+    (rw t (h .count ∙ ap length e), rw t (h .are ∙ ap (λ (k : ℕ). h .out ++ drop k room) (h .count) ∙ ap (λ (l : List ℕ). l ++ drop (length l) room) e))

@@ -1,0 +1,71 @@
+-- Document 01, module 6 (linearize), up to the post pass. `n` is the number of members, `anc i a` says that a is an ancestor of i, and
+-- `out` lists the members already out, in their order. Assumes nothing.
+use Prim.Native.Nat.{ℕ, zero, suc}
+use mathlib.Core.Bool.{Bool, not, _&&_}
+use mathlib.Core.List.{List, [], _∷_, _++_}
+use lib.ListN.{length, drop}
+use lib.Dec.{ltb, leb}
+use lib.IntN.{ℤ}
+use Rattle.feefrac.specs.declared.FeeFrac.{FeeFrac}
+use Rattle.feefrac.specs.Rate.{pick, difference, rateAt}
+use Rattle.txset.specs.Below.{countFrom, listFrom}
+use Rattle.txset.specs.Lists.{elem}
+use Rattle.txset.specs.Sets.{positions}
+use Rattle.feeset.specs.Total.{total}
+use Rattle.feeset.specs.Scan.{best, ranksAbove}
+
+-- "with members already out given back": those of the list that are ancestors, one after the other
+unfoldable pub givenBack : List ℤ → List ℕ → (ℕ → Bool) → FeeFrac → List ℕ → FeeFrac
+givenBack fs ss isAnc acc [] = acc
+givenBack fs ss isAnc acc (t ∷ ts) = givenBack fs ss isAnc (pick (isAnc t) (difference acc (rateAt fs ss t)) acc) ts
+
+-- "[its] ancestor sum, with members already out given back"
+unfoldable pub ancestorSum : List ℤ → List ℕ → ℕ → (ℕ → ℕ → Bool) → List ℕ → ℕ → FeeFrac
+ancestorSum fs ss n anc out i = givenBack fs ss (anc i) (total fs ss (listFrom (anc i) n 0)) out
+
+-- the remaining members, upwards
+unfoldable pub remaining : ℕ → List ℕ → List ℕ
+remaining n out = listFrom (λ i. not (elem i out)) n 0
+
+-- "Take the remaining member whose ancestor sum .. ranks highest"
+unfoldable pub candidate : List ℤ → List ℕ → ℕ → (ℕ → ℕ → Bool) → List ℕ → List ℕ
+candidate fs ss n anc out = best (ranksAbove (ancestorSum fs ss n anc out)) (remaining n out)
+
+-- its remaining ancestors, upwards
+unfoldable pub remainingAncestors : ℕ → (ℕ → ℕ → Bool) → ℕ → List ℕ → List ℕ
+remainingAncestors n anc i out = listFrom (λ a. anc i a && not (elem a out)) n 0
+
+-- "by ancestor count (in the entire cluster), then position": the scan upwards holds the lowest of equal counts
+unfoldable pub fewerAncestors : ℕ → (ℕ → ℕ → Bool) → ℕ → ℕ → Bool
+fewerAncestors n anc x y = ltb (countFrom (anc x) n 0) (countFrom (anc y) n 0)
+
+-- "append its remaining ancestors": k of them, each time the first by that order
+unfoldable pub appendAncestors : ℕ → (ℕ → ℕ → Bool) → ℕ → ℕ → List ℕ → List ℕ
+appendAncestors n anc i zero out = out
+appendAncestors n anc i (suc k) out = appendAncestors n anc i k (out ++ best (fewerAncestors n anc) (remainingAncestors n anc i out))
+
+-- all of them for the member taken
+unfoldable pub appendFor : ℕ → (ℕ → ℕ → Bool) → List ℕ → List ℕ → List ℕ
+appendFor n anc out [] = out
+appendFor n anc out (i ∷ is) = appendAncestors n anc i (length (remainingAncestors n anc i out)) out
+
+-- "repeat"
+unfoldable pub rounds : List ℤ → List ℕ → ℕ → (ℕ → ℕ → Bool) → ℕ → List ℕ → List ℕ
+rounds fs ss n anc zero out = out
+rounds fs ss n anc (suc k) out = rounds fs ss n anc k (appendFor n anc out (candidate fs ss n anc out))
+
+-- each round takes at least one member out, so n rounds are enough
+unfoldable pub ancestorOrder : List ℤ → List ℕ → (ℕ → ℕ → Bool) → List ℕ
+ancestorOrder fs ss anc = rounds fs ss (length fs) anc (length fs) []
+
+-- ---- what the function between crates promises for any input
+
+-- whether there are at most 64 members and a place for each
+unfoldable pub fits : List ℤ → List ℕ → Bool
+fits fs room = leb (length fs) positions && leb (length fs) (length room)
+
+unfoldable pub written : List ℤ → List ℕ → (ℕ → ℕ → Bool) → List ℕ → ℕ
+written fs ss anc room = pick (fits fs room) (length (ancestorOrder fs ss anc)) 0
+
+unfoldable pub filled : List ℤ → List ℕ → (ℕ → ℕ → Bool) → List ℕ → List ℕ
+filled fs ss anc room = pick (fits fs room) (ancestorOrder fs ss anc ++ drop (length (ancestorOrder fs ss anc)) room) room

@@ -1,0 +1,5 @@
+pub mod Groups
+pub mod Lists
+pub mod Scan
+pub mod Theorems
+pub mod Turns

@@ -1,0 +1,114 @@
+-- Laws of lists of positions (specs/Lists.antt): a property of some or of each element, membership, and no element twice. Assumes nothing.
+use mathlib.Core.Path.{_≡_, refl, sym, ap, ap₂, _∙_}
+use mathlib.Core.Bool.{Bool, true, false, not, _&&_, _||_, or-false, or-true, or-assoc, and-false, and-assoc, false≢true, and-eq-true-iff}
+use mathlib.Core.Logic.{⊎-elim}
+use mathlib.Core.List.{List, [], _∷_, _++_, List·Memᴰ, List·Memᴰ·cases-cons, List·Memᴰ·not-nil}
+use Prim.Native.Nat.{ℕ, zero, suc, _+_, _<_}
+use native.Mathlib.Nat.{not-suc-le-zero, le-of-suc-le-suc}
+use native.Mathlib.Omega.{arith}
+use lib.Dec.{eqb}
+use lib.ListN.{length, getD}
+use borrow.Author.Tests.{eq-eqb, ne-eqb, eqb-true, eqb-false}
+use Rattle.txset.specs.Lists.{anyOf, allOf, elem, distinct, same}
+
+-- ---- two lists together
+
+pub any-append : {A : Type 0} (f : A → Bool) (xs ys : List A) → anyOf f (xs ++ ys) ≡ (anyOf f xs || anyOf f ys)
+unfolding anyOf
+any-append f [] ys = refl
+any-append f (x ∷ xs) ys = ap (λ (b : Bool). f x || b) (any-append f xs ys) ∙ sym (or-assoc (f x) (anyOf f xs) (anyOf f ys))
+
+pub all-append : {A : Type 0} (f : A → Bool) (xs ys : List A) → allOf f (xs ++ ys) ≡ (allOf f xs && allOf f ys)
+unfolding allOf
+all-append f [] ys = refl
+all-append f (x ∷ xs) ys = ap (λ (b : Bool). f x && b) (all-append f xs ys) ∙ sym (and-assoc (f x) (allOf f xs) (allOf f ys))
+
+pub elem-append : (i : ℕ) (xs ys : List ℕ) → elem i (xs ++ ys) ≡ (elem i xs || elem i ys)
+unfolding elem
+elem-append i xs ys = any-append (eqb i) xs ys
+
+-- what has f and is in neither of two lists
+pub without-append : (f : Bool) (i : ℕ) (xs ys : List ℕ) → ((f && not (elem i xs)) && not (elem i ys)) ≡ (f && not (elem i (xs ++ ys)))
+without-append f i xs ys = go f (elem i xs) (elem i ys) ∙ ap (λ (b : Bool). f && not b) (sym (elem-append i xs ys))
+  where
+    go : (f b c : Bool) → ((f && not b) && not c) ≡ (f && not (b || c))
+    go true true c = refl
+    go true false c = refl
+    go false b c = refl
+
+-- ---- one element
+
+pub elem-one : (i x : ℕ) → elem i (x ∷ []) ≡ eqb i x
+unfolding elem anyOf
+elem-one i x = or-false (eqb i x)
+
+pub elem-head : (x : ℕ) (xs : List ℕ) → elem x (x ∷ xs) ≡ true
+unfolding elem anyOf
+elem-head x xs = ap (λ (b : Bool). b || elem x xs) (eq-eqb x x refl)
+
+pub elem-tail : (i x : ℕ) (xs : List ℕ) → elem i xs ≡ true → elem i (x ∷ xs) ≡ true
+unfolding elem anyOf
+elem-tail i x xs e = ap (λ (b : Bool). eqb i x || b) e ∙ or-true (eqb i x)
+
+-- what stands at an index is an element
+pub elem-at : (xs : List ℕ) (k : ℕ) → k < length xs → elem (getD xs k 0) xs ≡ true
+elem-at [] k h = absurd (not-suc-le-zero h)
+elem-at (x ∷ xs) zero h = elem-head x xs
+elem-at (x ∷ xs) (suc k) h = elem-tail (getD xs k 0) x xs (elem-at xs k (le-of-suc-le-suc h))
+
+-- ---- no element twice
+
+flip : (x y : ℕ) → eqb x y ≡ eqb y x
+flip x y = go (eqb y x) refl
+  where
+    go : (b : Bool) → eqb y x ≡ b → eqb x y ≡ b
+    go true e = eq-eqb x y (sym (eqb-true y x e))
+    go false e = ne-eqb x y (λ p. eqb-false y x e (sym p))
+
+-- one more at the end: it is none of the others
+pub distinct-snoc : (xs : List ℕ) (y : ℕ) → distinct (xs ++ (y ∷ [])) ≡ (distinct xs && not (elem y xs))
+unfolding distinct elem anyOf
+distinct-snoc [] y = refl
+distinct-snoc (x ∷ xs) y =
+    ap₂ (λ (a b : Bool). not a && b) (elem-append x xs (y ∷ []) ∙ ap (λ (b : Bool). elem x xs || b) (elem-one x y ∙ flip x y)) (distinct-snoc xs y)
+    ∙ turn (elem x xs) (eqb y x) (distinct xs) (elem y xs)
+  where
+    turn : (a b c d : Bool) → (not (a || b) && (c && not d)) ≡ ((not a && c) && not (b || d))
+    turn true b c d = refl
+    turn false true true d = refl
+    turn false true false d = refl
+    turn false false true d = refl
+    turn false false false d = refl
+
+-- what has an element twice has it twice with more behind it
+pub distinct-front : (xs ys : List ℕ) → distinct xs ≡ false → distinct (xs ++ ys) ≡ false
+unfolding distinct
+distinct-front [] ys e = absurd (clash e)
+  where
+    clash : true ≡ false → ⊥
+    clash q = let z : _≡_ {A = ℕ} 0 1 = cc in omega arith
+distinct-front (x ∷ xs) ys e =
+    ap (λ (b : Bool). not b && distinct (xs ++ ys)) (elem-append x xs ys) ∙ go (elem x xs) (distinct xs) e (distinct-front xs ys)
+  where
+    go : (a b : Bool) → (not a && b) ≡ false → (b ≡ false → distinct (xs ++ ys) ≡ false) → (not (a || elem x ys) && distinct (xs ++ ys)) ≡ false
+    go true b f h = refl
+    go false b f h = ap (λ (d : Bool). not (elem x ys) && d) (h f) ∙ and-false (not (elem x ys))
+
+-- ---- tables
+
+-- a test that holds of a whole list holds of each of its elements
+pub each : {A : Type 0} (f : A → Bool) {x : A} (xs : List A) → allOf f xs ≡ true → List·Memᴰ x xs → f x ≡ true
+unfolding allOf
+each f [] e m = absurd (List·Memᴰ·not-nil m)
+each f (y ∷ ys) e m =
+    let b = and-eq-true-iff (f y) (allOf f ys) .0 e in
+    ⊎-elim (λ q. ap f q ∙ b .0) (λ n. each f ys (b .1) n) (List·Memᴰ·cases-cons m)
+
+pub same-is : (xs ys : List ℕ) → same xs ys ≡ true → xs ≡ ys
+unfolding same
+same-is [] [] e = refl
+same-is [] (y ∷ ys) e = absurd (false≢true e)
+same-is (x ∷ xs) [] e = absurd (false≢true e)
+same-is (x ∷ xs) (y ∷ ys) e =
+    let b = and-eq-true-iff (eqb x y) (same xs ys) .0 e in
+    ap₂ _∷_ (eqb-true x y (b .0)) (same-is xs ys (b .1))
