@@ -1,0 +1,4 @@
+pub mod Append
+pub mod Digits
+pub mod Rate
+pub mod Texts
