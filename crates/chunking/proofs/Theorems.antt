@@ -2,14 +2,19 @@
 use Prim.Native.Nat.{ℕ, zero, suc, _+_, _≤_, _<_}
 use native.Mathlib.Nat.{not-suc-le-zero, le-of-suc-le-suc}
 use native.Mathlib.Omega.{arith}
-use mathlib.Core.Path.{_≡_, refl}
+use mathlib.Core.Path.{_≡_, refl, sym, ap, ap₂, _∙_}
 use mathlib.Core.Bool.{Bool, true, false, not, _&&_, and-eq-true-iff}
-use mathlib.Core.List.{List, [], _∷_, _++_}
-use lib.ListN.{length, getD}
+use mathlib.Core.List.{List, [], _∷_, _++_, map, map-append, append-nil, append-assoc}
+use lib.ListN.{length, getD, length-append, length-map}
+use lib.IntN.{ℤ, natAbs, _+ℤ_, +ℤ-idr, +ℤ-comm}
+use Rattle.feefrac.proofs.Exact.{sum-exact, exactSum, exact-append, spread, spread-append, abs-exact, Within, within-spread}
 use Rattle.feefrac.specs.declared.FeeFrac.{FeeFrac}
 use Rattle.feefrac.specs.Rate.{pick, higher}
+use Rattle.txset.specs.Sets.{positions}
+use Rattle.refusals.specs.Refusals.{anyOutside}
+use Rattle.refusals.proofs.Limits.{inside-within}
 use Rattle.chunking.specs.declared.Chunk.{Chunk}
-use Rattle.chunking.specs.Chunks.{alone, joined, swallow, chunksAfter, lengthsOf, chunkLengths}
+use Rattle.chunking.specs.Chunks.{alone, joined, swallow, chunksAfter, lengthsOf, chunkLengths, rates}
 use Rattle.chunking.proofs.Laws.{count}
 
 -- what holds of each of two where it is picked holds of the one picked
@@ -133,3 +138,85 @@ falling-swallow c (t ∷ ts) e =
 pub cut-falls : (rs : List FeeFrac) → falling (chunksAfter [] rs) ≡ true
 unfolding falling
 cut-falls rs = after-keeps (λ (cs : List Chunk). falling cs ≡ true) (λ r cs e. falling-swallow (alone r) cs e) rs [] refl
+
+-- ---- each chunk has the exact sum of its members' fees
+
+abbrev pub feesOf : List FeeFrac → List ℤ
+feesOf rs = map (λ r. r .fee) rs
+
+-- c is the chunk of these members
+pub record Has (c : Chunk) (own : List FeeFrac) : Type 0 where
+  pub len : c .len ≡ length own
+  pub fee : c .rate .fee ≡ exactSum (feesOf own)
+
+-- the members are those of the chunks, one after the other, the last chunk's last
+unfoldable pub CutInto : List FeeFrac → List Chunk → Type 0
+CutInto rs [] = rs ≡ []
+CutInto rs (c ∷ cs) = (front : List FeeFrac) × (own : List FeeFrac) × (rs ≡ front ++ own) × Has c own × CutInto front cs
+
+fees-append : (xs ys : List FeeFrac) → feesOf (xs ++ ys) ≡ feesOf xs ++ feesOf ys
+fees-append xs ys = map-append (λ r. r .fee) xs ys
+
+exact-alone : (r : FeeFrac) → Has (alone r) (r ∷ [])
+unfolding exactSum
+exact-alone r = record { len = refl; fee = sym (+ℤ-idr (r .fee)) }
+
+-- how far the fees are from zero together
+abbrev far : List FeeFrac → ℕ
+far rs = spread (feesOf rs)
+
+far-append : (xs ys : List FeeFrac) → far (xs ++ ys) ≡ far xs + far ys
+far-append xs ys = ap spread (fees-append xs ys) ∙ spread-append (feesOf xs) (feesOf ys)
+
+exact-joined : (c t : Chunk) (xs ys : List FeeFrac) → far xs + far ys < 9223372036854775808 → Has c ys → Has t xs → Has (joined c t) (xs ++ ys)
+exact-joined c t xs ys h p q =
+    record {
+      len = omega (arith, length-append xs ys, p .len, q .len);
+      fee =
+          sum-exact (c .rate) (t .rate)
+          (omega (arith, ap natAbs (p .fee), ap natAbs (q .fee), abs-exact (feesOf xs), abs-exact (feesOf ys)))
+          ∙ ap₂ _+ℤ_ (p .fee) (q .fee) ∙ +ℤ-comm (exactSum (feesOf ys)) (exactSum (feesOf xs))
+          ∙ sym (ap exactSum (fees-append xs ys) ∙ exact-append (feesOf xs) (feesOf ys));
+    }
+
+exact-swallow : (c : Chunk) (cs : List Chunk) (front own : List FeeFrac) → far front + far own < 9223372036854775808
+    → Has c own → CutInto front cs → CutInto (front ++ own) (swallow c cs)
+unfolding CutInto swallow
+exact-swallow c [] front own h p k = (front, own, refl, p, k)
+exact-swallow c (t ∷ ts) front own h p k =
+    pick-either (CutInto (front ++ own)) (higher (c .rate) (t .rate))
+    (λ _.
+    rw (k .2, append-assoc (k .0) (k .1) own)
+    (exact-swallow (joined c t) ts (k .0) (k .1 ++ own)
+    (omega (arith, far-append (k .1) own, far-append (k .0) (k .1), ap far (k .2)))
+    (exact-joined c t (k .1) own (omega (arith, far-append (k .0) (k .1), ap far (k .2))) p (k .3))
+    (k .4)))
+    (λ _. (front, own, refl, p, k))
+
+exact-after : (rs front : List FeeFrac) (cs : List Chunk) → far front + far rs < 9223372036854775808 → CutInto front cs
+    → CutInto (front ++ rs) (chunksAfter cs rs)
+unfolding chunksAfter spread
+exact-after [] front cs h k = rw (append-nil front) k
+exact-after (r ∷ rs) front cs h k =
+    rw (append-assoc front (r ∷ []) rs) at
+    (exact-after rs (front ++ (r ∷ [])) (swallow (alone r) cs) (omega (arith, far-append front (r ∷ [])))
+    (exact-swallow (alone r) cs front (r ∷ []) (omega arith) (exact-alone r) k))
+
+-- where the fees, signs aside, stay below 2^63 together
+pub chunks-exact : (rs : List FeeFrac) → spread (feesOf rs) < 9223372036854775808 → CutInto rs (chunksAfter [] rs)
+unfolding CutInto spread
+chunks-exact rs h = exact-after rs [] [] (omega arith) refl
+
+-- so it is for at most 64 members with fees within the limit
+pub chunks-within : (rs : List FeeFrac) → length rs ≤ 64 → Within (feesOf rs) → CutInto rs (chunksAfter [] rs)
+chunks-within rs few h = chunks-exact rs (omega (arith, within-spread (feesOf rs) h, length-map rs (λ r. r .fee)))
+
+rates-far : (fs : List ℤ) (ss : List ℕ) → far (rates fs ss) ≤ spread fs
+unfolding rates spread
+rates-far [] ss = omega arith
+rates-far (f ∷ fs) [] = omega arith
+rates-far (f ∷ fs) (s ∷ ss) = omega (arith, rates-far fs ss)
+
+-- and for every cluster that the call does not refuse
+pub call-exact : (fs : List ℤ) (ss : List ℕ) → length fs ≤ positions → anyOutside fs ≡ false → CutInto (rates fs ss) (chunksAfter [] (rates fs ss))
+call-exact fs ss few e = chunks-exact (rates fs ss) (omega (arith, rates-far fs ss, within-spread fs (inside-within fs e)))

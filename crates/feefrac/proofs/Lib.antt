@@ -3,3 +3,4 @@ pub mod Product
 pub mod Order
 pub mod Higher
 pub mod Lists
+pub mod Exact

@@ -1,0 +1,84 @@
+-- Where a fee sum is not held: two fees whose sizes, signs aside, add up to less than 2^63. Assumes nothing.
+use mathlib.Core.Path.{_≡_, sym, ap, _∙_}
+use mathlib.Core.List.{List, [], _∷_, _++_}
+use Prim.Native.Nat.{ℕ, suc, _+_, _*_, _≤_, _<_}
+use native.Mathlib.Omega.{arith}
+use lib.IntN.{ℤ, pos, negsuc, negℤ, natAbs, _+ℤ_, _-ℤ_, +ℤ-idl, +ℤ-assoc}
+use lib.ListN.{length, getD}
+use Rattle.feefrac.specs.declared.FeeFrac.{FeeFrac}
+use Rattle.feefrac.specs.Rate.{heldFee, sum, difference}
+use Rattle.feefrac.proofs.Signed.{up, down, Sum, sum as parts, up-neg, down-neg, in-range, held-in}
+
+abs-parts : (z : ℤ) → natAbs z ≡ up z + down z
+abs-parts (pos n) = omega arith
+abs-parts (negsuc n) = omega arith
+
+-- a sum is at most as far from zero as its parts together
+pub abs-sum : (x y : ℤ) → natAbs (x +ℤ y) ≤ natAbs x + natAbs y
+abs-sum x y = go (x +ℤ y) (parts x y)
+  where
+    go : (z : ℤ) → Sum x y z → natAbs z ≤ natAbs x + natAbs y
+    go (pos n) s = omega (arith, abs-parts x, abs-parts y)
+    go (negsuc n) s = omega (arith, abs-parts x, abs-parts y)
+
+pub abs-neg : (z : ℤ) → natAbs (negℤ z) ≡ natAbs z
+abs-neg z = omega (arith, abs-parts z, abs-parts (negℤ z), up-neg z, down-neg z)
+
+pub abs-difference : (x y : ℤ) → natAbs (x -ℤ y) ≤ natAbs x + natAbs y
+abs-difference x y = omega (arith, abs-sum x (negℤ y), abs-neg y)
+
+-- what is nearer to zero than 2^63 is not held
+pub held-near : (z : ℤ) → natAbs z < 9223372036854775808 → heldFee z ≡ z
+held-near (pos n) h = held-in (in-range (pos n) (omega arith) (omega arith))
+held-near (negsuc n) h = held-in (in-range (negsuc n) (omega arith) (omega arith))
+
+module _ (a b : FeeFrac) (near : natAbs (a .fee) + natAbs (b .fee) < 9223372036854775808) where
+  -- the fee of a sum is the exact sum of the fees
+  pub sum-exact : sum a b .fee ≡ a .fee +ℤ b .fee
+  unfolding sum
+  sum-exact = held-near (a .fee +ℤ b .fee) (omega (arith, abs-sum (a .fee) (b .fee)))
+
+  -- the fee of a difference is the exact difference of the fees
+  pub difference-exact : difference a b .fee ≡ a .fee -ℤ b .fee
+  unfolding difference
+  difference-exact = held-near (a .fee -ℤ b .fee) (omega (arith, abs-difference (a .fee) (b .fee)))
+
+-- ---- many fees
+
+-- the exact sum of some fees
+unfoldable pub exactSum : List ℤ → ℤ
+exactSum [] = pos 0
+exactSum (f ∷ fs) = f +ℤ exactSum fs
+
+pub exact-append : (xs ys : List ℤ) → exactSum (xs ++ ys) ≡ exactSum xs +ℤ exactSum ys
+unfolding exactSum
+exact-append [] ys = sym (+ℤ-idl (exactSum ys))
+exact-append (x ∷ xs) ys = ap (λ (z : ℤ). x +ℤ z) (exact-append xs ys) ∙ sym (+ℤ-assoc x (exactSum xs) (exactSum ys))
+
+-- their sizes, signs aside, together
+unfoldable pub spread : List ℤ → ℕ
+spread [] = 0
+spread (f ∷ fs) = natAbs f + spread fs
+
+pub spread-append : (xs ys : List ℤ) → spread (xs ++ ys) ≡ spread xs + spread ys
+unfolding spread
+spread-append [] ys = omega arith
+spread-append (x ∷ xs) ys = omega (arith, spread-append xs ys)
+
+pub abs-exact : (fs : List ℤ) → natAbs (exactSum fs) ≤ spread fs
+unfolding exactSum spread
+abs-exact [] = omega arith
+abs-exact (f ∷ fs) = omega (arith, abs-sum f (exactSum fs), abs-exact fs)
+
+-- the bound of a cluster fee, either sign
+abbrev pub feeLimit : ℕ
+feeLimit = 4200000000000000
+
+-- each fee is within it
+abbrev pub Within : List ℤ → Type 0
+Within fs = (i : ℕ) → i < length fs → natAbs (getD fs i (pos 0)) ≤ feeLimit
+
+pub within-spread : (fs : List ℤ) → Within fs → spread fs ≤ feeLimit * length fs
+unfolding spread
+within-spread [] h = omega arith
+within-spread (f ∷ fs) h = omega (arith, h 0 (omega arith), within-spread fs (λ i l. h (suc i) (omega arith)))

@@ -1,0 +1,4 @@
+pub mod Output
+pub mod Rounds
+pub mod Setup
+pub mod Steps
