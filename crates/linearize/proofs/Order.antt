@@ -1,0 +1,132 @@
+-- The refusals of linearize in their order, and its four steps as one. Assumes nothing.
+use Prim.Native.Nat.{ℕ, _≤_, _<_}
+use native.Mathlib.Omega.{arith}
+use mathlib.Core.Path.{_≡_, sym, ap, ap₂, _∙_}
+use mathlib.Core.Bool.{Bool, true, false, _&&_}
+use mathlib.Core.List.{List, [], _∷_, _++_, append-nil}
+use lib.ListN.{length, drop, drop-of-length-le}
+use lib.Dec.{leb}
+use lib.IntN.{ℤ}
+use borrow.Author.Tests.{lt-ltb, le-ltb, le-leb}
+use Rattle.feefrac.specs.Rate.{pick}
+use Rattle.txset.specs.Sets.{positions, mem, setAt}
+use Rattle.depgraph.specs.declared.DepGraph.{DepGraph}
+use Rattle.depgraph.specs.Closed.{Closed}
+use Rattle.depgraph.specs.Graph.{isCyclic}
+use Rattle.depgraph.proofs.Theorems.{ancestor-refl}
+use Rattle.refusals.specs.Refusals.{answerOf, differ₃, tooMany, short, firstOutside}
+use Rattle.refusals.proofs.Laws.{given, passed-over, none-left, outside-some, outside-none}
+use Rattle.postpass.specs.Pass.{backPass, forwardPass}
+use Rattle.postpass.proofs.Theorems.{back-same, forward-same}
+use Rattle.postlin.specs.PostLinearize.{postLinearize}
+use Rattle.postlin.proofs.Checks.{ancestors-are, descendants-are}
+use Rattle.candidates.specs.Candidates
+use Rattle.candidates.specs.Candidates.{ancestorOrder}
+use Rattle.candidates.proofs.Theorems.{as-many}
+use Rattle.output.specs.Output
+use Rattle.output.specs.Output.{outputOrder}
+use Rattle.linearize.specs.Linearize.{refusals, linearOrder}
+use Rattle.linearize.specs.Steps.{stepsOf, Ready}
+
+module _ (fs : List ℤ) (ss ps room : List ℕ) where
+  pub first-1 : differ₃ (length fs) (length ss) (length ps) ≡ true → answerOf (refusals fs ss ps room) ≡ 1
+  unfolding refusals
+  first-1 h = given 1 _ _ h
+
+  module _ (e : differ₃ (length fs) (length ss) (length ps) ≡ false) where
+    pub first-2 : positions < length fs → answerOf (refusals fs ss ps room) ≡ 2
+    unfolding refusals
+    first-2 h = passed-over 1 _ _ e (given 2 _ _ (lt-ltb positions (length fs) h))
+
+    module _ (m : length fs ≤ positions) where
+      past-2 : tooMany (length fs) ≡ false
+      past-2 = le-ltb positions (length fs) m
+
+      pub first-11 : length room < length fs → answerOf (refusals fs ss ps room) ≡ 11
+      unfolding refusals
+      first-11 h = passed-over 1 _ _ e (passed-over 2 _ _ past-2 (given 11 _ _ (lt-ltb (length room) (length fs) h)))
+
+      module _ (l : length fs ≤ length room) where
+        past-11 : short (length room) (length fs) ≡ false
+        past-11 = le-ltb (length room) (length fs) l
+
+        pub first-3 : firstOutside fs < length fs → answerOf (refusals fs ss ps room) ≡ 3
+        unfolding refusals
+        first-3 h = passed-over 1 _ _ e (passed-over 2 _ _ past-2 (passed-over 11 _ _ past-11 (given 3 _ _ (outside-some fs h))))
+
+        module _ (r : length fs ≤ firstOutside fs) where
+          pub first-4 : isCyclic ps ≡ true → answerOf (refusals fs ss ps room) ≡ 4
+          unfolding refusals
+          first-4 h =
+              passed-over 1 _ _ e
+              (passed-over 2 _ _ past-2 (passed-over 11 _ _ past-11 (passed-over 3 _ _ (outside-none fs r) (given 4 _ _ h))))
+
+          pub first-none : isCyclic ps ≡ false → answerOf (refusals fs ss ps room) ≡ 0
+          unfolding refusals
+          first-none h =
+              passed-over 1 _ _ e
+              (passed-over 2 _ _ past-2 (passed-over 11 _ _ past-11 (passed-over 3 _ _ (outside-none fs r) (passed-over 4 _ _ h none-left))))
+
+-- ---- the four steps
+
+nothing-behind : {n : ℕ} (xs ys : List ℕ) → length ys ≡ n → xs ++ drop n ys ≡ xs
+nothing-behind {n} xs ys e =
+    let h : length ys ≤ n = omega arith in
+    rw (drop-of-length-le ys h) (append-nil xs)
+
+module _ (fs : List ℤ) (ss A D order room : List ℕ) (r : Ready fs A order room) where
+  abbrev anc : ℕ → ℕ → Bool
+  anc = λ i. mem (setAt A i)
+
+  abbrev desc : ℕ → ℕ → Bool
+  desc = λ i. mem (setAt D i)
+
+  -- the candidates fill the list
+  taken : (o : List ℕ) → o ≡ Candidates.filled fs ss anc order → o ≡ ancestorOrder fs ss anc
+  unfolding Candidates.filled Candidates.fits
+  taken o e =
+      e ∙ rw (le-leb (length fs) positions (r .few), le-leb (length fs) (length order) (omega (arith, r .long)), as-many fs ss anc (r .own))
+      (nothing-behind (ancestorOrder fs ss anc) order (r .long))
+
+  pub steps : (o mid last : List ℕ) (k : ℕ) (out : List ℕ) → o ≡ Candidates.filled fs ss anc order
+      → mid ≡ pick (leb (length o) 64) (backPass fs ss desc o) o
+      → last ≡ pick (leb (length mid) 64) (forwardPass fs ss anc mid) mid
+      → k ≡ Output.written fs ss anc last room → out ≡ Output.filled fs ss anc last room
+      → (k ≡ length (stepsOf fs ss anc desc)) × (out ≡ stepsOf fs ss anc desc ++ drop k room)
+  unfolding stepsOf Output.written Output.filled Output.fits
+  steps o mid last k out e f g h w =
+      let first : o ≡ ancestorOrder fs ss anc = taken o e in
+      let n1 : length o ≡ length fs = ap length first ∙ as-many fs ss anc (r .own) in
+      let back : mid ≡ backPass fs ss desc (ancestorOrder fs ss anc) = f ∙ rw (le-leb (length o) 64 (omega (arith, r .few)), first) in
+      let n2 : length mid ≡ length fs = ap length back ∙ back-same fs ss desc (ancestorOrder fs ss anc) .long ∙ as-many fs ss anc (r .own) in
+      let fore : last ≡ forwardPass fs ss anc (backPass fs ss desc (ancestorOrder fs ss anc)) = g ∙ rw (le-leb (length mid) 64 (omega (arith, r .few)), back) in
+      let n3 : length last ≡ length fs =
+      ap length fore ∙ forward-same fs ss anc (backPass fs ss desc (ancestorOrder fs ss anc)) .long ∙ sym (ap length back) ∙ n2 in
+      let fit : (leb (length fs) positions && (leb (length last) (length fs) && leb (length fs) (length room))) ≡ true =
+      rw (le-leb (length fs) positions (r .few), le-leb (length last) (length fs) (omega arith), le-leb (length fs) (length room) (r .wide)) in
+      let long : k ≡ length (outputOrder fs ss anc last) = h ∙ rw fit in
+      (long ∙ rw fore, w ∙ rw (fit, ← long, fore))
+
+-- what the steps ask, of the graph of the members
+pub ready : {fs : List ℤ} {ps order room : List ℕ} {g : DepGraph} → Closed ps g → length ps ≡ length fs → length fs ≤ positions
+    → length order ≡ length fs → length fs ≤ length room → Ready fs (g .ancestors) order room
+ready {fs} {ps} c e h o w = record {
+  few = h;
+  own = λ i l. c .ancestors i i ∙ ancestor-refl ps i (omega arith);
+  long = o;
+  wide = w;
+}
+
+-- of that graph the steps give the order of the cluster
+pub is-linear : (fs : List ℤ) (ss : List ℕ) {ps : List ℕ} {g : DepGraph} → Closed ps g
+    → stepsOf fs ss (λ i. mem (setAt (g .ancestors) i)) (λ i. mem (setAt (g .descendants) i)) ≡ linearOrder fs ss ps
+unfolding stepsOf linearOrder postLinearize
+is-linear fs ss c = ap₂ (λ (a d : ℕ → ℕ → Bool). outputOrder fs ss a (forwardPass fs ss a (backPass fs ss d (ancestorOrder fs ss a)))) (ancestors-are c) (descendants-are c)
+
+pub linear-done : (fs : List ℤ) (ss room : List ℕ) {ps : List ℕ} {g : DepGraph} (k : ℕ) (out : List ℕ) → Closed ps g
+    → k ≡ length (stepsOf fs ss (λ i. mem (setAt (g .ancestors) i)) (λ i. mem (setAt (g .descendants) i)))
+    → out ≡ stepsOf fs ss (λ i. mem (setAt (g .ancestors) i)) (λ i. mem (setAt (g .descendants) i)) ++ drop k room
+    → (k ≡ length (linearOrder fs ss ps)) × (out ≡ linearOrder fs ss ps ++ drop (length (linearOrder fs ss ps)) room)
+linear-done fs ss room {ps} k out c e f =
+    let n : k ≡ length (linearOrder fs ss ps) = e ∙ ap length (is-linear fs ss c) in
+    (n, f ∙ ap₂ _++_ (is-linear fs ss c) (ap (λ (j : ℕ). drop j room) n))

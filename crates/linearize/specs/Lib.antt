@@ -1,0 +1,3 @@
+pub mod Linearize
+pub mod Steps
+pub mod Cases

@@ -1,0 +1,60 @@
+// Modules 6, 5 and 7 of document 01 as a call: linearize. It checks its own input and leaves the room as it was where it refuses.
+ghost use mathlib.Core.Path.{_≡_};
+ghost use mathlib.Core.List.{_++_};
+ghost use lib.ListN.{length, drop};
+ghost use Rattle.txset.specs.Sets.{mem, setAt};
+ghost use Rattle.linearize.specs.Linearize.{reply, roomAfter};
+ghost use Rattle.linearize.specs.Steps.{stepsOf, Ready};
+use depgraph::DepGraph;
+use refusals::Reply;
+use txset::POSITIONS;
+
+// Writes the order of a cluster's members, as positions of the slices, to the room's start.
+pub fn linearize(fees: &[i64], sizes: &[u64], parents: &[u64], room: &mut [usize]) -> Reply
+    ensures { λ r. ⌜ r ≡ reply (now (fees .entry)) (now (sizes .entry)) (now (parents .entry)) (now (room .entry)) ⌝ }
+    ensures { λ _. ⌜ now (room .exit) ≡ roomAfter (now (fees .entry)) (now (sizes .entry)) (now (parents .entry)) (now (room .entry)) ⌝ }
+{
+    let n = fees.len();
+    if sizes.len() != n {
+        return Reply::refused(refusals::LENGTHS_DIFFER);
+    }
+    if parents.len() != n {
+        return Reply::refused(refusals::LENGTHS_DIFFER);
+    }
+    if POSITIONS < n {
+        return Reply::refused(refusals::TOO_MANY_MEMBERS);
+    }
+    if room.len() < n {
+        return Reply::refused(refusals::ROOM_TOO_SHORT);
+    }
+    if refusals::first_outside(fees) < n {
+        return Reply::refused(refusals::OUT_OF_RANGE);
+    }
+    let graph = DepGraph::new(parents);
+    if graph.cyclic {
+        return Reply::refused(refusals::CYCLE);
+    }
+    let ancestors = graph.ancestors;
+    let descendants = graph.descendants;
+    let mut order = [0usize; 64];
+    Reply::wrote(order_members(fees, sizes, &ancestors, &descendants, &mut order[..n], room))
+}
+
+// The four steps: ancestor sets by feerate into `order`, the two post passes there, and the output order into the room.
+fn order_members(
+    fees: &[i64],
+    sizes: &[u64],
+    ancestors: &[u64],
+    descendants: &[u64],
+    order: &mut [usize],
+    room: &mut [usize],
+) -> usize
+    requires { ⌜ Ready (now fees) (now ancestors) (now order) (now room) ⌝ }
+    ensures { λ r. ⌜ r ≡ length (stepsOf (now (fees .entry)) (now (sizes .entry)) (λ i. mem (setAt (now (ancestors .entry)) i)) (λ i. mem (setAt (now (descendants .entry)) i))) ⌝ }
+    ensures { λ r. ⌜ now (room .exit) ≡ stepsOf (now (fees .entry)) (now (sizes .entry)) (λ i. mem (setAt (now (ancestors .entry)) i)) (λ i. mem (setAt (now (descendants .entry)) i)) ++ drop r (now (room .entry)) ⌝ }
+{
+    candidates::ancestor_order(fees, sizes, ancestors, order);
+    postpass::back_pass(fees, sizes, descendants, order);
+    postpass::forward_pass(fees, sizes, ancestors, order);
+    output::output_order(fees, sizes, ancestors, order, room)
+}
