@@ -1,0 +1,7 @@
+pub mod Picks
+pub mod Copies
+pub mod Decimals
+pub mod Places
+pub mod Named
+pub mod Reading
+pub mod Theorems

@@ -1,0 +1,5 @@
+pub mod Numerals
+pub mod Lines
+pub mod Reading
+pub mod Calls
+pub mod Steps

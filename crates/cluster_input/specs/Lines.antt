@@ -1,0 +1,33 @@
+-- Document 01, "The cluster program": its lines. Assumes nothing.
+use Prim.Native.Nat.{ℕ, suc}
+use mathlib.Core.Bool.{Bool, true, false, _&&_}
+use mathlib.Core.List.{List, [], _∷_}
+use lib.ListN.{length, drop}
+use lib.Dec.{eqb, ltb, leb}
+use Rattle.feefrac.specs.Rate.{pick}
+
+-- what stands before the first byte b, and behind it
+unfoldable pub before : ℕ → List ℕ → List ℕ
+before b [] = []
+before b (x ∷ xs) = pick (eqb x b) [] (x ∷ before b xs)
+
+unfoldable pub behind : ℕ → List ℕ → List ℕ
+behind b xs = drop (suc (length (before b xs))) xs
+
+-- "each line ended by a newline and at most 1,024 bytes before it"
+unfoldable pub isLine : List ℕ → Bool
+isLine xs = ltb (length (before 10 xs)) (length xs) && leb (length (before 10 xs)) 1024
+
+-- whether the list starts with the key
+unfoldable pub starts : List ℕ → List ℕ → Bool
+starts [] xs = true
+starts (k ∷ ks) [] = false
+starts (k ∷ ks) (x ∷ xs) = eqb x k && starts ks xs
+
+-- whether the text starts with a line of this key
+unfoldable pub isField : List ℕ → List ℕ → Bool
+isField key xs = isLine xs && starts key (before 10 xs)
+
+-- what the line has behind its key
+unfoldable pub valueOf : List ℕ → List ℕ → List ℕ
+valueOf key xs = drop (length key) (before 10 xs)
