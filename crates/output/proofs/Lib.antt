@@ -5,3 +5,6 @@ pub mod Ready
 pub mod Rounds
 pub mod Sizes
 pub mod Surveying
+pub mod Kept
+pub mod Progress
+pub mod Theorems
