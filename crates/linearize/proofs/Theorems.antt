@@ -51,8 +51,8 @@ module _ (fs : List ℤ) (ss ps : List ℕ) where
     -- every member is in the order, so it has as many places as there are members
     pub linear-every : (i : ℕ) → i < length fs → elem i (linearOrder fs ss ps) ≡ true
     unfolding linearOrder
-    linear-every = out-every fs ss (isAncestor ps) (postLinearize fs ss ps (ancestorOrder fs ss (isAncestor ps))) every passed
+    linear-every = out-every fs ss (isAncestor ps) (postLinearize fs ss ps (ancestorOrder fs ss (isAncestor ps))) passed every
 
     pub linear-length : length (linearOrder fs ss ps) ≡ length fs
     unfolding linearOrder
-    linear-length = out-length fs ss (isAncestor ps) (postLinearize fs ss ps (ancestorOrder fs ss (isAncestor ps))) every passed
+    linear-length = out-length fs ss (isAncestor ps) (postLinearize fs ss ps (ancestorOrder fs ss (isAncestor ps))) passed every

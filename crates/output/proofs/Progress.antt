@@ -24,7 +24,7 @@ use Rattle.candidates.proofs.Kept.{elem-below, left, left-less, once-none, Afte
 use Rattle.output.specs.Output.{cut, chunkAt, chunkAbove, chunkReady, memberReady, inside, putOut, nextChunk, chunksOut}
 use Rattle.output.proofs.Kept.{Best, none-or-best, mayCome, may-ready, keeps-inside}
 
--- ---- one of two
+-- ---- what holds of two
 
 either : (b c : Bool) → (b || c) ≡ true → (b ≡ true) ⊎ (c ≡ true)
 either true c e = inl refl
@@ -108,7 +108,7 @@ cut-stands (l ∷ ls) xs (suc k) t e =
           (in-append u (take l xs) (s .front) q);
     }
 
--- all parts stand so
+-- each element of a part stands so
 abbrev pub Parts : List (List ℕ) → List ℕ → Type 0
 Parts cs list = (k t : ℕ) → elem t (chunkAt cs k) ≡ true → Stands cs list k t
 
@@ -126,10 +126,15 @@ cut-covers (l ∷ ls) xs h i e =
 
 -- ---- how many are due
 
-count-some : (f : ℕ → Bool) (n i : ℕ) → i < n → f i ≡ true → 1 ≤ countFrom f n 0
-count-some f n i l h =
-    omega (arith, count-without f (λ j. f j && not (eqb j i)) n 0 i (omega arith) (omega arith) h (λ j _ _. refl))
+-- where the count is 0, none has it
+count-zero : (f : ℕ → Bool) (n : ℕ) → countFrom f n 0 ≤ 0 → (i : ℕ) → i < n → f i ≡ false
+count-zero f n z i l = go (f i) refl
+  where
+    go : (b : Bool) → f i ≡ b → f i ≡ false
+    go true e = absurd (omega (arith, count-without f (λ j. f j && not (eqb j i)) n 0 i (omega arith) (omega arith) e (λ j _ _. refl)))
+    go false e = e
 
+-- and the other way
 pub count-none : (f : ℕ → Bool) (n : ℕ) → ((i : ℕ) → i < n → f i ≡ false) → countFrom f n 0 ≡ 0
 count-none f n h = count-list f n 0 ∙ ap length (list-nil f n 0 (at-none f n 0 (λ i _ l. h i (omega arith))))
 
@@ -184,6 +189,7 @@ abbrev pub Closed : ℕ → (ℕ → ℕ → Bool) → List ℕ → List ℕ →
 Closed n anc out c = (t a : ℕ) → t < n → elem t c ≡ true → a < n → anc t a ≡ true → (elem a c || elem a out) ≡ true
 
 module _ (n : ℕ) (anc : ℕ → ℕ → Bool) (out c : List ℕ) where
+  -- so the chunk is ready
   pub closed-ready : Closed n anc out c → chunkReady n anc out c ≡ true
   unfolding chunkReady
   closed-ready h =
@@ -192,12 +198,14 @@ module _ (n : ℕ) (anc : ℕ → ℕ → Bool) (out c : List ℕ) where
       (λ e. at-all (λ a. not (anc t a) || (elem a c || elem a out)) n 0
       (λ a _ m. implies (anc t a) (elem a c || elem a out) (λ p. h t a (omega arith) e (omega arith) p))))
 
+  -- and only so
   pub ready-closed : chunkReady n anc out c ≡ true → Closed n anc out c
   unfolding chunkReady
   ready-closed h t a l e m p =
       let all = rw e at (all-at (λ t. not (elem t c) || allFrom (λ a. not (anc t a) || (elem a c || elem a out)) n 0) n 0 h t (omega arith) (omega arith)) in
       rw p at (all-at (λ a. not (anc t a) || (elem a c || elem a out)) n 0 all a (omega arith) (omega arith))
 
+  -- it stays so
   pub closed-more : (t : ℕ) → Closed n anc out c → Closed n anc (out ++ (t ∷ [])) c
   closed-more t h i a l e m p =
       ap (λ (b : Bool). elem a c || b) (elem-append a out (t ∷ []))
@@ -220,7 +228,7 @@ Gone n cs gone out = (k i : ℕ) → elem k gone ≡ true → i < n → elem i (
 abbrev mayGo : ℕ → (ℕ → ℕ → Bool) → List (List ℕ) → List ℕ → List ℕ → ℕ → Bool
 mayGo n anc cs gone out k = not (elem k gone) && chunkReady n anc out (chunkAt cs k)
 
--- each member stands in the order after its ancestors
+-- where each member stands in the order after its ancestors
 module _ (n : ℕ) (anc : ℕ → ℕ → Bool) (order : List ℕ) (after : After n anc order) where
   -- t is a member of a ready chunk, and of the chunk all that stand before t in the order are out: t's other ancestors are out
   pub first-member : (c out xs ys : List ℕ) (t : ℕ) → chunkReady n anc out c ≡ true → order ≡ xs ++ (t ∷ ys) → t < n → elem t c ≡ true
@@ -271,7 +279,7 @@ module _ (n : ℕ) (anc : ℕ → ℕ → Bool) (order : List ℕ) (after : Afte
         (λ b. b)
         (none-or-best (chunkAbove fs ss n cs) (mayGo n anc cs gone out) (length cs))
 
-    -- each member is in the order
+    -- and each is in the order
     module _ (whole : (i : ℕ) → i < n → elem i order ≡ true) where
       -- while a member of a ready chunk is not out, one comes next
       pub next-member : (c out : List ℕ) (i : ℕ) → chunkReady n anc out c ≡ true → i < n → elem i c ≡ true → elem i out ≡ false
@@ -297,11 +305,8 @@ module _ (n : ℕ) (anc : ℕ → ℕ → Bool) (order : List ℕ) (after : Afte
       inside-all : (c : List ℕ) (k : ℕ) (out : List ℕ) → chunkReady n anc out c ≡ true → due n c out ≤ k
           → (i : ℕ) → i < n → elem i c ≡ true → elem i (inside fs ss n anc c k out) ≡ true
       unfolding inside
-      inside-all c zero out h d i l e = go (elem i out) refl
-        where
-          go : (b : Bool) → elem i out ≡ b → elem i out ≡ true
-          go true q = q
-          go false q = absurd (omega (arith, count-some (λ t. elem t c && not (elem t out)) n i l (ap₂ (λ (a b : Bool). a && not b) e q)))
+      inside-all c zero out h d i l e =
+          not-false (elem i out) (ap (λ (a : Bool). a && not (elem i out)) (sym e) ∙ count-zero (λ t. elem t c && not (elem t out)) n d i l)
       inside-all c (suc k) out h d i l e = go (elem i out) refl (λ new r m. inside-all c k new r m i l e)
         where
           go : (b : Bool) → elem i out ≡ b
@@ -369,10 +374,15 @@ module _
       (λ z. inside-keeps fs ss n anc c (length c) out i (g j i z l m))
       (in-cons j k gone e)
 
+  goes : (r : ℕ) (s : Stage) → r < length cs → Sound n cs r s
+      → (k : ℕ) × Best (chunkAbove fs ss n cs) (mayGo n anc cs (s .gone) (s .out)) (length cs) k
+  goes r s l h = next-chunk n anc order after fs ss cs parts (s .gone) (s .out) (h .outs) (omega (arith, h .many))
+
+  -- a round makes one more gone
   sound-more : (r : ℕ) (s : Stage) → r < length cs → Sound n cs r s → Sound n cs (suc r) (onwards fs ss n anc cs s)
   unfolding onwards nextChunk
   sound-more r s l h =
-      let b = next-chunk n anc order after fs ss cs parts (s .gone) (s .out) (h .outs) (omega (arith, h .many)) in
+      let b = goes r s l h in
       let k = b .0 in
       let left' = and-left (not (elem k (s .gone))) (chunkReady n anc (s .out) (chunkAt cs k)) (b .1 .has) in
       let ready = and-right (not (elem k (s .gone))) (chunkReady n anc (s .out) (chunkAt cs k)) (b .1 .has) in
@@ -382,6 +392,7 @@ module _
         many = omega (arith, h .many, left-cons (length cs) (s .gone) k (b .1 .below) (not-true (elem k (s .gone)) left'));
       })
 
+  -- so it is in every round
   pub sound : (r : ℕ) → r ≤ length cs → Sound n cs r (stage fs ss n anc cs r)
   unfolding stage elem anyOf
   sound zero l = record { outs = λ k i e. clash e refl; many = omega (arith, once-none (length cs) .sum) }
@@ -390,11 +401,7 @@ module _
   -- each round finds a chunk
   pub found : (r : ℕ) → r < length cs → (k : ℕ) × (nextChunk fs ss n anc cs (stage fs ss n anc cs r .gone) (stage fs ss n anc cs r .out) ≡ k ∷ [])
   unfolding nextChunk
-  found r l =
-      let s = stage fs ss n anc cs r in
-      let h = sound r (omega arith) in
-      let b = next-chunk n anc order after fs ss cs parts (s .gone) (s .out) (h .outs) (omega (arith, h .many)) in
-      (b .0, b .1 .is)
+  found r l = let b = goes r (stage fs ss n anc cs r) l (sound r (omega arith)) in (b .0, b .1 .is)
 
   -- at the end the members of all chunks are out
   pub all-out : (k i : ℕ) → k < length cs → i < n → elem i (chunkAt cs k) ≡ true → elem i (chunksOut fs ss n anc cs (length cs) [] []) ≡ true
@@ -402,11 +409,5 @@ module _
   all-out k i l m e =
       let s = stage fs ss n anc cs (length cs) in
       let h = sound (length cs) (omega arith) in
-      ap (elem i) (stage-out fs ss n anc cs (length cs) 0 (length cs) (omega arith)) ∙ h .outs k i (go h (elem k (s .gone)) refl) m e
-    where
-      go : Sound n cs (length cs) (stage fs ss n anc cs (length cs)) → (b : Bool) → elem k (stage fs ss n anc cs (length cs) .gone) ≡ b
-          → elem k (stage fs ss n anc cs (length cs) .gone) ≡ true
-      go h true q = q
-      go h false q =
-          absurd
-          (omega (arith, h .many, count-some (λ j. not (elem j (stage fs ss n anc cs (length cs) .gone))) (length cs) k l (ap not q)))
+      let last = not-false (elem k (s .gone)) (count-zero (λ j. not (elem j (s .gone))) (length cs) (omega (arith, h .many)) k l) in
+      ap (elem i) (stage-out fs ss n anc cs (length cs) 0 (length cs) (omega arith)) ∙ h .outs k i last m e

@@ -54,13 +54,13 @@ module _ (fs : List ℤ) (ss : List ℕ) (anc : ℕ → ℕ → Bool) (order : L
   -- the output is what is out after as many rounds as there are chunks
   pub rounds-out : outputOrder fs ss anc order ≡ outAfter (length (chunksOf fs ss order))
   unfolding outputOrder stage
-  rounds-out = stage-out fs ss (length fs) anc (chunksOf fs ss order) (length (chunksOf fs ss order)) 0 (length (chunksOf fs ss order)) (omega arith)
+  rounds-out = let r = length (chunksOf fs ss order) in stage-out fs ss (length fs) anc (chunksOf fs ss order) r 0 r (omega arith)
 
   parts : Parts (chunksOf fs ss order) order
   unfolding chunksOf
   parts = cut-stands (chunkLengths (map (rateAt fs ss) order)) order
 
-  -- each member is in some chunk
+  -- each of the order is in some chunk
   in-chunk : (i : ℕ) → elem i order ≡ true
       → (k : ℕ) × ((k < length (chunksOf fs ss order)) × (elem i (chunkAt (chunksOf fs ss order) k) ≡ true))
   unfolding chunksOf
@@ -69,41 +69,42 @@ module _ (fs : List ℤ) (ss : List ℕ) (anc : ℕ → ℕ → Bool) (order : L
       let c = cut-covers (chunkLengths rs) order (omega (arith, lengths-sum rs, length-map order (rateAt fs ss))) i e in
       (c .0, (omega (arith, c .1 .0, length-cut (chunkLengths rs) order), c .1 .1))
 
-  -- where each member is in the order, and stands there after its ancestors
+  -- where each member stands in the order after its ancestors
   module _
-      (whole : (i : ℕ) → i < length fs → elem i order ≡ true)
       (after : (xs ys : List ℕ) (i a : ℕ) → order ≡ xs ++ (i ∷ ys) → a < length fs → anc i a ≡ true → (a ≡ i → ⊥) → elem a xs ≡ true) where
-    -- in every round, of the chunks not gone the first is ready
-    pub ready-chunk : (r k : ℕ) → r ≤ length (chunksOf fs ss order) → ((j : ℕ) → j < k → elem j (goneAfter r) ≡ true)
-        → chunkReady (length fs) anc (outAfter r) (chunkAt (chunksOf fs ss order) k) ≡ true
-    ready-chunk r k l =
-        first-chunk (length fs) anc order after (chunksOf fs ss order) parts (goneAfter r) (outAfter r) k
-        (sound (length fs) anc order after fs ss whole (chunksOf fs ss order) parts r l .outs)
-
-    -- so every round finds a chunk
-    pub chunk-found : (r : ℕ) → r < length (chunksOf fs ss order)
-        → (k : ℕ) × (nextChunk fs ss (length fs) anc (chunksOf fs ss order) (goneAfter r) (outAfter r) ≡ k ∷ [])
-    chunk-found = found (length fs) anc order after fs ss whole (chunksOf fs ss order) parts
-
     -- inside a ready chunk, of the members not out the first in the order is ready
     pub ready-member : (c out xs ys : List ℕ) (t : ℕ) → chunkReady (length fs) anc out c ≡ true → order ≡ xs ++ (t ∷ ys) → t < length fs
         → elem t c ≡ true → ((x : ℕ) → x < length fs → elem x xs ≡ true → elem x c ≡ true → elem x out ≡ true)
         → memberReady (length fs) anc out t ≡ true
     ready-member = first-member (length fs) anc order after
 
-    -- so a member is found while one is not out
-    pub member-found : (c out : List ℕ) (i : ℕ) → chunkReady (length fs) anc out c ≡ true → i < length fs → elem i c ≡ true → elem i out ≡ false
-        → (t : ℕ) × (best (ranksAbove (rateAt fs ss)) (listFrom (mayCome (length fs) anc c out) (length fs) 0) ≡ t ∷ [])
-    member-found c out i h l e q = let b = next-member (length fs) anc order after fs ss whole c out i h l e q in (b .0, b .1 .is)
+    -- and each is in the order
+    module _ (whole : (i : ℕ) → i < length fs → elem i order ≡ true) where
+      -- so a member is found while one is not out
+      pub member-found : (c out : List ℕ) (i : ℕ) → chunkReady (length fs) anc out c ≡ true → i < length fs → elem i c ≡ true → elem i out ≡ false
+          → (t : ℕ) × (best (ranksAbove (rateAt fs ss)) (listFrom (mayCome (length fs) anc c out) (length fs) 0) ≡ t ∷ [])
+      member-found c out i h l e q = let b = next-member (length fs) anc order after fs ss whole c out i h l e q in (b .0, b .1 .is)
 
-    -- each member is an element
-    pub out-every : (i : ℕ) → i < length fs → elem i (outputOrder fs ss anc order) ≡ true
-    unfolding outputOrder
-    out-every i l =
-        let c = in-chunk i (whole i l) in
-        all-out (length fs) anc order after fs ss whole (chunksOf fs ss order) parts (c .0) i (c .1 .0) l (c .1 .1)
+      -- in every round, of the chunks not gone the first is ready
+      pub ready-chunk : (r k : ℕ) → r ≤ length (chunksOf fs ss order) → ((j : ℕ) → j < k → elem j (goneAfter r) ≡ true)
+          → chunkReady (length fs) anc (outAfter r) (chunkAt (chunksOf fs ss order) k) ≡ true
+      ready-chunk r k l =
+          first-chunk (length fs) anc order after (chunksOf fs ss order) parts (goneAfter r) (outAfter r) k
+          (sound (length fs) anc order after fs ss whole (chunksOf fs ss order) parts r l .outs)
 
-    -- there are as many elements as members
-    pub out-length : length (outputOrder fs ss anc order) ≡ length fs
-    out-length =
-        omega (arith, taken .sum, count-none (λ i. not (elem i (outputOrder fs ss anc order))) (length fs) (λ i l. ap not (out-every i l)))
+      -- so every round finds a chunk
+      pub chunk-found : (r : ℕ) → r < length (chunksOf fs ss order)
+          → (k : ℕ) × (nextChunk fs ss (length fs) anc (chunksOf fs ss order) (goneAfter r) (outAfter r) ≡ k ∷ [])
+      chunk-found = found (length fs) anc order after fs ss whole (chunksOf fs ss order) parts
+
+      -- each member is an element
+      pub out-every : (i : ℕ) → i < length fs → elem i (outputOrder fs ss anc order) ≡ true
+      unfolding outputOrder
+      out-every i l =
+          let c = in-chunk i (whole i l) in
+          all-out (length fs) anc order after fs ss whole (chunksOf fs ss order) parts (c .0) i (c .1 .0) l (c .1 .1)
+
+      -- there are as many elements as members
+      pub out-length : length (outputOrder fs ss anc order) ≡ length fs
+      out-length =
+          omega (arith, taken .sum, count-none (λ i. not (elem i (outputOrder fs ss anc order))) (length fs) (λ i l. ap not (out-every i l)))
