@@ -1,4 +1,4 @@
--- What the compare's own helpers speak of: no contract outside this crate cites these. Assumes nothing.
+-- What the compare's own private functions speak of: no contract outside this crate cites these. Assumes nothing.
 use Prim.Native.Nat.{ℕ, _+_, _*_, _<_, _≤_}
 use mathlib.Core.Path.{_≡_}
 use lib.IntN.{natAbs}

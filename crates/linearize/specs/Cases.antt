@@ -56,6 +56,8 @@ cases =
     ∷ cuts (pos 1 ∷ pos 0 ∷ pos 2 ∷ []) (1 ∷ 1 ∷ 1 ∷ []) (1 ∷ 2 ∷ [])
     ∷ cuts (pos 0 ∷ pos 0 ∷ []) (0 ∷ 0 ∷ []) (1 ∷ 1 ∷ [])
     ∷ cuts (pos 1 ∷ pos 5 ∷ []) (1 ∷ 0 ∷ []) (2 ∷ [])
+    -- not of the document: "choosing the first ancestor set well and then running by position" would answer 0,1,2
+    ∷ orders (pos 30 ∷ pos 10 ∷ pos 20 ∷ []) (100 ∷ 100 ∷ 100 ∷ []) (0 ∷ 0 ∷ 0 ∷ []) (0 ∷ 2 ∷ 1 ∷ []) (1 ∷ 1 ∷ 1 ∷ [])
     -- "0 and 1 parents of each other: refusal 4"
     ∷ refuses (pos 1 ∷ pos 2 ∷ []) (1 ∷ 1 ∷ []) (2 ∷ 1 ∷ []) 4
     ∷ []
