@@ -4,4 +4,5 @@ pub mod Decimals
 pub mod Places
 pub mod Named
 pub mod Reading
+pub mod Lengths
 pub mod Theorems

@@ -8,12 +8,12 @@ use mathlib.Core.Path.{_≡_, refl, sym, ap, ap₂, _∙_}
 use mathlib.Core.Bool.{Bool, true, false, _&&_, _||_, and-true, and-false, or-false, or-assoc, and-or-distrib-left}
 use mathlib.Core.Logic.{⊎-elim}
 use mathlib.Core.List.{List, [], _∷_, _++_, map}
-use lib.Dec.{eqb, ltb}
+use lib.Dec.{eqb, ltb, leb}
 use lib.ListN.{length, take, drop, getD, set, length-set, length-map, drop-of-length-le, List·getD-append}
 use lib.Seq.{drop-cons, drop-drop, getD-take, getD-set-same, getD-set-other, length-take-le, ext-getD}
 use lib.IntN.{ℤ, pos}
 use borrow.Author.Count.{below-none, below-more}
-use borrow.Author.Tests.{lt-ltb, le-ltb}
+use borrow.Author.Tests.{lt-ltb, le-ltb, lt-leb, le-leb, eq-eqb}
 use Rattle.feefrac.specs.declared.FeeFrac.{FeeFrac}
 use Rattle.feefrac.specs.Rate.{zeroRate, rateAt}
 use Rattle.feefrac.proofs.Lists as rates'
@@ -23,10 +23,10 @@ use Rattle.txset.specs.Sets.{positions, isPosition, mem, setAt, putAt}
 use Rattle.txset.proofs.Below.{lt-or-ge}
 use Rattle.txset.proofs.Sets.{put-same, put-other, length-put}
 use Rattle.chunking.specs.Chunks.{rates, fits, written, filled}
-use Rattle.chunking.proofs.Laws.{length-rates, rates-at, fitting}
+use Rattle.chunking.proofs.Laws.{length-rates, rates-at}
 use Rattle.chunking.proofs.Theorems.{total, lengths-sum, lengths-few}
-use Rattle.output.specs.Output.{cut, chunksOf, chunkAt}
-use Rattle.output.specs.Setup.{Gathered, orderLengths, Lengths}
+use Rattle.output.specs.Output.{cut, chunksOf, chunkAt, orderLengths, cuts, lengthsWritten, lengthsFilled}
+use Rattle.output.specs.Setup.{Gathered}
 use Rattle.output.specs.Steps.{All, Cut}
 
 -- ---- one more is put
@@ -136,19 +136,35 @@ module _
       ∙ h .at i m (omega arith) (omega arith)
       ∙ sym (at-map (rateAt fs ss) order i zeroRate m))
 
-  -- so the lengths of their chunks are those of the order's
-  pub gathered-lengths : (room new : List ℕ) (r : ℕ) → length order ≤ positions → length order ≤ length room
-      → r ≡ written (take (length order) fees) (take (length order) sizes) room → new ≡ filled (take (length order) fees) (take (length order) sizes) room
-      → Lengths (orderLengths fs ss order) new r
-  unfolding written filled
-  gathered-lengths room new r x y p q =
-      let n = length order in
-      let ls = orderLengths fs ss order in
-      let f : fits (take n fees) (take n sizes) room ≡ true =
-      fitting (take n fees) (take n sizes) room same-long (omega (arith, fees-long)) (omega (arith, fees-long)) in
-      let count : r ≡ length ls = rw (f, gathered-rates) at p in
-      let is : new ≡ ls ++ drop (length ls) room = rw (f, gathered-rates) at q in
-      record { count = count; at = λ k l. ap (λ (xs : List ℕ). getD xs k 0) is ∙ List·getD-append ls (drop (length ls) room) 0 k (omega arith) }
+  -- they fit a room where the order does
+  same-fit : (room : List ℕ) → fits (take (length order) fees) (take (length order) sizes) room ≡ cuts order room
+  unfolding fits cuts
+  same-fit room = rw (eq-eqb (length (take (length order) fees)) (length (take (length order) sizes)) same-long, fees-long)
+
+  -- so what is written of their chunks is what is written of the order's
+  pub gathered-lengths : (room new : List ℕ) (r : ℕ) → r ≡ written (take (length order) fees) (take (length order) sizes) room
+      → new ≡ filled (take (length order) fees) (take (length order) sizes) room
+      → (r ≡ lengthsWritten fs ss order room) × (new ≡ lengthsFilled fs ss order room)
+  unfolding written filled lengthsWritten lengthsFilled
+  gathered-lengths room new r p q = (rw (same-fit room, gathered-rates) at p, rw (same-fit room, gathered-rates) at q)
+
+module _ (fs : List ℤ) (ss order room : List ℕ) where
+  -- a longer order is left
+  pub too-long : positions < length order → (0 ≡ lengthsWritten fs ss order room) × (room ≡ lengthsFilled fs ss order room)
+  unfolding lengthsWritten lengthsFilled cuts
+  too-long l =
+      let e : leb (length order) positions ≡ false = lt-leb (length order) positions l in
+      (rw e, rw e)
+
+  -- of an order that fits all lengths are written
+  pub all-lengths : (new : List ℕ) (r : ℕ) → length order ≤ positions → length order ≤ length room → r ≡ lengthsWritten fs ss order room
+      → new ≡ lengthsFilled fs ss order room → (r ≡ length (orderLengths fs ss order)) × (new ≡ orderLengths fs ss order ++ drop r room)
+  unfolding lengthsWritten lengthsFilled cuts
+  all-lengths new r x y p q =
+      let f : (leb (length order) positions && leb (length order) (length room)) ≡ true =
+      ap₂ _&&_ (le-leb (length order) positions x) (le-leb (length order) (length room) y) in
+      let count : r ≡ length (orderLengths fs ss order) = rw f at p in
+      (count, q ∙ rw (f, ← count))
 
 -- ---- set_of
 
@@ -233,6 +249,21 @@ within {n} i b h =
     (λ l. rw (lt-ltb i n l, lt-ltb i positions (omega arith)) (and-true b))
     (λ l. rw (le-ltb i n l) (and-false (isPosition i && b)))
     (lt-or-ge i n)
+
+-- a room starts with the r lengths
+pub record Lengths (lengths room : List ℕ) (r : ℕ) : Type 0 where
+  pub count : r ≡ length lengths
+  pub at : (k : ℕ) → k < r → getD room k 0 ≡ getD lengths k 0
+
+pub lengths-are : (fs : List ℤ) (ss order room new : List ℕ) (r : ℕ) → length order ≤ positions → length order ≤ length room
+    → r ≡ lengthsWritten fs ss order room → new ≡ lengthsFilled fs ss order room → Lengths (orderLengths fs ss order) new r
+lengths-are fs ss order room new r x y p q =
+    let ls = orderLengths fs ss order in
+    let all = all-lengths fs ss order room new r x y p q in
+    record {
+      count = all .0;
+      at = λ k l. ap (λ (xs : List ℕ). getD xs k 0) (all .1) ∙ List·getD-append ls (drop r room) 0 k (omega (arith, all .0));
+    }
 
 -- the first k chunks of the order are written; the next starts at `start`
 pub record Cutting (n : ℕ) (ls order sets tops : List ℕ) (start k : ℕ) : Type 0 where

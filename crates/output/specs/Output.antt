@@ -71,7 +71,22 @@ chunksOut fs ss n anc cs (suc r) gone out = chunksOut fs ss n anc cs r (ks ++ go
 unfoldable pub outputOrder : List ℤ → List ℕ → (ℕ → ℕ → Bool) → List ℕ → List ℕ
 outputOrder fs ss anc order = chunksOut fs ss (length fs) anc (chunksOf fs ss order) (length (chunksOf fs ss order)) [] []
 
--- ---- what the function between crates promises for any input
+-- ---- what the functions between crates promise for any input
+
+-- the lengths of the chunks of an order
+abbrev pub orderLengths : List ℤ → List ℕ → List ℕ → List ℕ
+orderLengths fs ss order = chunkLengths (map (rateAt fs ss) order)
+
+-- whether there are at most 64 members in the order, and a place for each
+unfoldable pub cuts : List ℕ → List ℕ → Bool
+cuts order room = leb (length order) positions && leb (length order) (length room)
+
+unfoldable pub lengthsWritten : List ℤ → List ℕ → List ℕ → List ℕ → ℕ
+lengthsWritten fs ss order room = pick (cuts order room) (length (orderLengths fs ss order)) 0
+
+unfoldable pub lengthsFilled : List ℤ → List ℕ → List ℕ → List ℕ → List ℕ
+lengthsFilled fs ss order room =
+    pick (cuts order room) (orderLengths fs ss order ++ drop (length (orderLengths fs ss order)) room) room
 
 -- whether there are at most 64 members, an order of at most as many, and a place for each
 unfoldable pub fits : List ℤ → List ℕ → List ℕ → Bool

@@ -6,8 +6,8 @@ ghost use Prim.Native.Nat.{ℕ, _≤_, _<_};
 ghost use lib.ListN.{length};
 ghost use Rattle.txset.specs.Lists.{anyOf, elem, highestOf};
 ghost use Rattle.txset.specs.Sets.{positions, isPosition, mem, members, setAt};
-ghost use Rattle.output.specs.Output.{chunksOf, written, filled};
-ghost use Rattle.output.specs.Setup.{Gathered, orderLengths, Lengths};
+ghost use Rattle.output.specs.Output.{chunksOf, written, filled, lengthsWritten, lengthsFilled};
+ghost use Rattle.output.specs.Setup.{Gathered};
 ghost use Rattle.output.specs.Steps.{All, Cut, Surveyed};
 ghost use Rattle.output.specs.Rounds.{chosen, heldOf, sumAbove, chunkOf, memberOf, Standing, Put};
 use chunking::cut_lengths;
@@ -125,12 +125,16 @@ fn cut(
     count
 }
 
-// Writes the lengths of the chunks of the order; answers how many there are.
-fn order_lengths(fees: &[i64], sizes: &[u64], order: &[usize], lens: &mut [usize]) -> usize
-    requires { ⌜ (length (now order) ≤ positions) × (length (now lens) ≡ positions) ⌝ }
-    ensures { λ r. ⌜ Lengths (orderLengths (now (fees .entry)) (now (sizes .entry)) (now (order .entry))) (now (lens .exit)) r ⌝ }
+// Writes the lengths of the chunks of an order to the start of `lens`; answers how many there are. Where the order is longer than 64 or
+// than `lens`, it writes nothing and answers 0.
+pub fn order_lengths(fees: &[i64], sizes: &[u64], order: &[usize], lens: &mut [usize]) -> usize
+    ensures { λ r. ⌜ r ≡ lengthsWritten (now (fees .entry)) (now (sizes .entry)) (now (order .entry)) (now (lens .entry)) ⌝ }
+    ensures { λ _. ⌜ now (lens .exit) ≡ lengthsFilled (now (fees .entry)) (now (sizes .entry)) (now (order .entry)) (now (lens .entry)) ⌝ }
 {
     let n = order.len();
+    if POSITIONS < n {
+        return 0;
+    }
     let mut in_fees = [0i64; 64];
     let mut in_sizes = [0u64; 64];
     gather(fees, sizes, order, &mut in_fees, &mut in_sizes);

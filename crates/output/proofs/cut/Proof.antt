@@ -4,8 +4,8 @@ use mathlib.Core.Path.{refl}
 use lib.ListN.{length, getD}
 use borrow.Author.Needs.{needs}
 use Rattle.txset.specs.Sets.{positions}
-use Rattle.output.specs.Setup.{orderLengths}
-use Rattle.output.proofs.Cutting.{Cutting, Bounds, cut-start, cut-bounds, cut-turn, cut-done}
+use Rattle.output.specs.Output.{orderLengths}
+use Rattle.output.proofs.Cutting.{Lengths, lengths-are, Cutting, Bounds, cut-start, cut-bounds, cut-turn, cut-done}
 use Rattle.output.proofs.cut.Statement.{statement}
 use Rattle.output.proofs.cut.Tie as tie
 
@@ -20,16 +20,23 @@ abbrev μ-loop : tie.MeasureT-loop
 short : (c : tie.Start Inv-loop μ-loop) → length (c .args .order .now) ≤ positions
 short c = omega (arith, c .pre .0 .few, c .pre .1 .0)
 
+-- the lengths of the order's chunks are written
+made : (c : tie.After-order-lengths Inv-loop μ-loop)
+    → Lengths
+    (orderLengths (c .before .before .before .before .before .before .args .fees .now) (c .before .before .before .before .before .before .args .sizes .now)
+    (c .before .before .before .before .before .before .args .order .now))
+    (c .order-lengths .last .1 .1 .1 .0) (c .order-lengths .result)
+made c =
+    let few = short (c .before .before .before .before .before .before) in
+    lengths-are _ _ _ _ _ _ few few (c .order-lengths .ensures .0) (c .order-lengths .ensures .1)
+
 bounds : (c : tie.In-loop Inv-loop μ-loop)
     → Bounds (c .before .before .before .before .before .before .before .before .before .args .order .now) (c .before .loop .start)
     (getD (c .before .before .before .order-lengths .last .1 .1 .1 .0) (c .before .loop .k) 0) (c .before .loop .k)
 bounds c =
-    let made = c .before .before .before in
-    let start = made .before .before .before .before .before .before in
-    cut-bounds _ _ _ (made .order-lengths .ensures) (short start) (c .before .loop .inv) (c .loop-test .taken)
-
-order-lengths-requires : tie.Need-order-lengths-requires Inv-loop μ-loop
-order-lengths-requires c κs = (short (c .before .before .before .before .before), refl)
+    let lens = c .before .before .before in
+    let start = lens .before .before .before .before .before .before in
+    cut-bounds _ _ _ (made lens) (short start) (c .before .loop .inv) (c .loop-test .taken)
 
 loop-holds : tie.Need-loop-holds Inv-loop μ-loop
 loop-holds c =
@@ -42,16 +49,16 @@ loop-again c =
     let meet = put .before .before in
     let set = meet .before in
     let turn = set .before .before in
-    let made = turn .before .before .before in
-    let start = made .before .before .before .before .before .before in
-    cut-turn _ _ _ (made .order-lengths .ensures) (short start) (turn .before .loop .inv) (turn .loop-test .taken) _ _ _ _ _ _ _ (start .pre .0) refl
+    let lens = turn .before .before .before in
+    let start = lens .before .before .before .before .before .before in
+    cut-turn _ _ _ (made lens) (short start) (turn .before .loop .inv) (turn .loop-test .taken) _ _ _ _ _ _ _ (start .pre .0) refl
     (set .set-of .ensures) (meet .intersection .ensures) (put .put .ensures) (c .highest .ensures) refl
 
 returns : tie.Need-returns Inv-loop μ-loop
 returns c =
-    let made = c .before .before .before in
-    let start = made .before .before .before .before .before .before in
-    cut-done _ _ _ (made .order-lengths .ensures) (short start) (c .before .loop .inv) (c .loop-test .left)
+    let lens = c .before .before .before in
+    let start = lens .before .before .before .before .before .before in
+    cut-done _ _ _ (made lens) (short start) (c .before .loop .inv) (c .loop-test .left)
 
 pub cut-spec : {M : Type 1} → statement M
 cut-spec =
@@ -60,7 +67,7 @@ cut-spec =
     Inv-loop
     μ-loop
     (λ c. search needs)
-    order-lengths-requires
+    (λ c κs. search needs)
     loop-holds
     (λ c. let b = bounds c in search needs)
     (λ c. let b = bounds c in search needs)
