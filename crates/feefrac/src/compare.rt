@@ -11,16 +11,18 @@ use crate::FeeFrac;
 use crate::Ordering;
 use crate::compare_sizes;
 
-// a.fee × b.size against b.fee × a.size.
+// a.fee × b.size against b.fee × a.size. The wide way stands in two places: so the compiler leaves it a call, and puts the rest, which
+// is short then, into each scan.
 pub fn compare_rates(a: FeeFrac, b: FeeFrac) -> Ordering
     ensures { λ r. ⌜ r ≡ rateOrder a b ⌝ }
 {
-    if is_narrow(a) {
-        if is_narrow(b) {
-            return compare_narrow(a, b);
-        }
+    if !is_narrow(a) {
+        return compare_wide(a, b);
     }
-    compare_wide(a, b)
+    if !is_narrow(b) {
+        return compare_wide(a, b);
+    }
+    compare_narrow(a, b)
 }
 
 // Whether a product of one such fee and one such size fits an i64.
