@@ -1,11 +1,11 @@
--- What a summary says of a group, and an array of summaries as a stack of groups, the last group on top. Assumes nothing.
+-- What a summary says of a group, and an array of summaries as a stack of groups from either end, the last group on top. Assumes nothing.
 use mathlib.Core.Path.{_≡_, refl, sym, ap, ap₂, _∙_}
 use mathlib.Core.Bool.{Bool, true, false, _&&_, _||_, or-false, or-comm, and-or-distrib-left}
 use mathlib.Core.List.{List, [], _∷_}
-use Prim.Native.Nat.{ℕ, _≤_, _<_}
+use Prim.Native.Nat.{ℕ, _-_, _<_}
 use native.Mathlib.Omega.{arith}
 use lib.Dec.{eqb}
-use lib.ListN.{length, getD, set, length-append, length-set}
+use lib.ListN.{length, getD, set, length-append}
 use lib.Seq.{getD-set-same, getD-set-other}
 use borrow.Author.Tests.{lt-ltb}
 use Rattle.feefrac.specs.declared.FeeFrac.{FeeFrac}
@@ -96,20 +96,29 @@ module _ {ws : List ℕ} {cur prev : Summary} {g p : Group} (a : Stands ws cur g
       (λ n. none-any (λ t. anyOf (onOf ws t) (p .txs)) (g .txs) (λ t e. none-any (onOf ws t) (p .txs) (apart n t e)))
       (λ n. mem-disjoint (cur .deps) (prev .set) (unmet n))
 
--- the first summaries of an array stand for these groups, the first group's summary above the others
-pub data Stack (ws : List ℕ) (xs : List Summary) : List Group → Type 0 where
-  none : Stack ws xs []
-  more : (g : Group) (gs : List Group) → length gs < length xs → 0 < length (g .txs)
-      → ((d : Summary) → Stands ws (getD xs (length gs) d) g) → Stack ws xs gs → Stack ws xs (g ∷ gs)
+-- summaries of an array stand for these groups: the bottom one's at `place 0`, the next one's at `place 1`, and so on up to the first
+pub data Stack (place : ℕ → ℕ) (ws : List ℕ) (xs : List Summary) : List Group → Type 0 where
+  none : Stack place ws xs []
+  more : (g : Group) (gs : List Group) → 0 < length (g .txs) → ((d : Summary) → Stands ws (getD xs (place (length gs)) d) g) → Stack place ws xs gs
+      → Stack place ws xs (g ∷ gs)
 
--- a store above a stack leaves it as it is
-pub stack-kept : {ws : List ℕ} {xs : List Summary} {gs : List Group} (k : ℕ) (s : Summary) → length gs ≤ k → Stack ws xs gs → Stack ws (set xs k s) gs
-stack-kept k s h none = none
-stack-kept {xs = xs} k s h (more g gs l n t v) =
-    more g gs (omega (arith, length-set xs k s)) n (λ d. rw (getD-set-other xs k (length gs) s d (λ e. omega arith)) (t d)) (stack-kept k s (omega arith) v)
+-- from the array's start upwards
+abbrev pub Near : List ℕ → List Summary → List Group → Type 0
+Near = Stack (λ n. n)
 
--- a store on top of it is a push
-pub stack-push : {ws : List ℕ} {xs : List Summary} {gs : List Group} {s : Summary} {g : Group} → Stack ws xs gs → length gs < length xs → Stands ws s g
-    → Stack ws (set xs (length gs) s) (g ∷ gs)
-stack-push {xs = xs} {gs = gs} {s = s} {g = g} v h a =
-    more g gs (omega (arith, length-set xs (length gs) s)) (a .some) (λ d. rw (getD-set-same xs (length gs) s d h) a) (stack-kept (length gs) s (omega arith) v)
+-- from the end of an array of 64 downwards
+abbrev pub Far : List ℕ → List Summary → List Group → Type 0
+Far = Stack (λ n. 63 - n)
+
+module _ {place : ℕ → ℕ} {ws : List ℕ} {xs : List Summary} where
+  -- a store at none of its places leaves a stack as it is
+  pub stack-kept : {gs : List Group} (k : ℕ) (s : Summary) → ((n : ℕ) → n < length gs → place n ≡ k → ⊥) → Stack place ws xs gs → Stack place ws (set xs k s) gs
+  stack-kept k s h none = none
+  stack-kept k s h (more g gs n t v) =
+      more g gs n (λ d. rw (getD-set-other xs k (place (length gs)) s d (h (length gs) (omega arith))) (t d))
+      (stack-kept k s (λ i l. h i (omega arith)) v)
+
+  -- a store at the place after them is a push
+  pub stack-push : {gs : List Group} {s : Summary} {g : Group} → Stack place ws xs gs → place (length gs) < length xs
+      → ((n : ℕ) → n < length gs → place n ≡ place (length gs) → ⊥) → Stands ws s g → Stack place ws (set xs (place (length gs)) s) (g ∷ gs)
+  stack-push {gs} {s} {g} v h o a = more g gs (a .some) (λ d. rw (getD-set-same xs (place (length gs)) s d h) a) (stack-kept (place (length gs)) s o v)

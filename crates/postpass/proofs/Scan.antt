@@ -14,7 +14,7 @@ use Rattle.txset.specs.Sets.{overlap}
 use Rattle.postpass.specs.declared.pass.Group.{Group as Summary}
 use Rattle.postpass.specs.Summary.{Joined}
 use Rattle.postpass.specs.Pass.{Group, absorb, dependsOn, settle, alone, groupsAfter, flat, onePass}
-use Rattle.postpass.proofs.Groups.{onOf, Stands, joined-stands, overlap-depends, Stack, none, more, stack-push}
+use Rattle.postpass.proofs.Groups.{onOf, Stands, joined-stands, overlap-depends, Stack, none, more, Near, Far, stack-kept, stack-push}
 use Rattle.postpass.proofs.Turns.{mid-at, put-at, length-rotated}
 
 -- ---- lists of groups
@@ -38,10 +38,10 @@ after-snoc rate dep gs [] t = refl
 after-snoc rate dep gs (u ∷ ts) t = after-snoc rate dep (settle dep (alone rate u) gs) ts t
 
 -- a group of a stack has a member
-few-flat : {ws : List ℕ} {xs : List Summary} {gs : List Group} → Stack ws xs gs → length gs ≤ length (flat gs)
+few-flat : {place : ℕ → ℕ} {ws : List ℕ} {xs : List Summary} {gs : List Group} → Stack place ws xs gs → length gs ≤ length (flat gs)
 unfolding flat
 few-flat none = omega arith
-few-flat (more g gs l n t v) = omega (arith, few-flat v, length-append (flat gs) (g .txs))
+few-flat (more g gs n t v) = omega (arith, few-flat v, length-append (flat gs) (g .txs))
 
 length-behind : (gs : List Group) → length (behind gs) ≡ length (flat gs)
 unfolding behind flat
@@ -52,34 +52,33 @@ length-behind (g ∷ gs) = omega (arith, length-behind gs, length-append (g .txs
 
 -- the list has the members of the groups gs, k in all, and then the rest; the first `count` summaries stand for gs
 pub record Held (ws : List ℕ) (gs : List Group) (rest order : List ℕ) (groups : List Summary) (count k : ℕ) : Type 0 where
-  pub stack : Stack ws groups gs
+  pub stack : Near ws groups gs
   pub many : count ≡ length gs
   pub size : k ≡ length (flat gs)
   pub lies : order ≡ flat gs ++ rest
 
 -- the first k members have made their groups
-pub record Outer (rate : ℕ → FeeFrac) (ws order₀ order : List ℕ) (groups passed : List Summary) (count k : ℕ) : Type 0 where
+pub record Outer (rate : ℕ → FeeFrac) (ws order₀ order : List ℕ) (groups : List Summary) (count k : ℕ) : Type 0 where
   pub held : Held ws (groupsAfter rate (onOf ws) [] (take k order₀)) (drop k order₀) order groups count k
   pub within : k ≤ length order₀
   pub same : length order ≡ length order₀
   pub small : length order ≤ 64
   pub long : length groups ≡ 64
-  pub free : length passed ≡ 64
 
-pub outer-start : (rate : ℕ → FeeFrac) (ws order : List ℕ) (groups passed : List Summary) → length groups ≡ 64 → length passed ≡ 64
-    → length order ≤ 64 → Outer rate ws order order groups passed 0 0
+pub outer-start : (rate : ℕ → FeeFrac) (ws order : List ℕ) (groups : List Summary) → length groups ≡ 64 → length order ≤ 64
+    → Outer rate ws order order groups 0 0
 unfolding groupsAfter flat
-outer-start rate ws order groups passed a b h =
-    record { held = record { stack = none; many = refl; size = refl; lies = refl }; within = omega arith; same = refl; small = h; long = a; free = b }
+outer-start rate ws order groups a h =
+    record { held = record { stack = none; many = refl; size = refl; lies = refl }; within = omega arith; same = refl; small = h; long = a }
 
 -- ---- in the scan
 
 -- the groups bs are below the current one, g, and os were stepped over, the last one first: `ahead` of their members stand in
--- front of g's, the others behind; what comes of it is `goal`
-pub record State (ws : List ℕ) (goal : List Group) (rest order : List ℕ) (groups passed : List Summary) (cur : Summary) (below from ahead over : ℕ)
+-- front of g's, the others behind; the array has bs at its start and os at its end; what comes of it is `goal`
+pub record State (ws : List ℕ) (goal : List Group) (rest order : List ℕ) (groups : List Summary) (cur : Summary) (below from ahead over : ℕ)
     (bs os : List Group) (g : Group) : Type 0 where
-  pub under : Stack ws groups bs
-  pub gone : Stack ws passed os
+  pub under : Near ws groups bs
+  pub gone : Far ws groups os
   pub current : Stands ws cur g
   pub low : below ≡ length bs
   pub high : over ≡ length os
@@ -89,31 +88,31 @@ pub record State (ws : List ℕ) (goal : List Group) (rest order : List ℕ) (gr
   pub comes : reverseAux os (settle (onOf ws) g bs) ≡ goal
 
 -- the same of some groups
-pub record Scan (ws : List ℕ) (goal : List Group) (rest order : List ℕ) (groups passed : List Summary) (cur : Summary)
+pub record Scan (ws : List ℕ) (goal : List Group) (rest order : List ℕ) (groups : List Summary) (cur : Summary)
     (below from ahead over : ℕ) : Type 0 where
   pub bs : List Group
   pub os : List Group
   pub g : Group
-  pub state : State ws goal rest order groups passed cur below from ahead over bs os g
+  pub state : State ws goal rest order groups cur below from ahead over bs os g
 
 -- the same where `prev` is the summary of the group p on top of those below
-pub record Top (ws : List ℕ) (goal : List Group) (rest order : List ℕ) (groups passed : List Summary) (cur : Summary) (below from ahead over : ℕ)
+pub record Top (ws : List ℕ) (goal : List Group) (rest order : List ℕ) (groups : List Summary) (cur : Summary) (below from ahead over : ℕ)
     (prev : Summary) : Type 0 where
   pub p : Group
   pub bs : List Group
   pub os : List Group
   pub g : Group
-  pub state : State ws goal rest order groups passed cur below from ahead over (p ∷ bs) os g
-  pub under : Stack ws groups bs
+  pub state : State ws goal rest order groups cur below from ahead over (p ∷ bs) os g
+  pub under : Near ws groups bs
   pub top : Stands ws prev p
 
 -- the same where the scan is over
-pub record Rest (ws : List ℕ) (goal : List Group) (rest order : List ℕ) (groups passed : List Summary) (cur : Summary)
+pub record Rest (ws : List ℕ) (goal : List Group) (rest order : List ℕ) (groups : List Summary) (cur : Summary)
     (below from ahead over : ℕ) : Type 0 where
   pub bs : List Group
   pub os : List Group
   pub g : Group
-  pub state : State ws goal rest order groups passed cur below from ahead over bs os g
+  pub state : State ws goal rest order groups cur below from ahead over bs os g
   pub settled : settle (onOf ws) g bs ≡ g ∷ bs
 
 -- how far the numbers of a scan go
@@ -122,21 +121,20 @@ pub record Room (order : List ℕ) (cur : Summary) (below from ahead over : ℕ)
   pub few : below + over < length order
 
 -- at the head of the scan for the member t: whatever the groups gs and the rest of the list were where it began, it works t into gs
-pub record Inner (rate : ℕ → FeeFrac) (ws order₀ : List ℕ) (groups : List Summary) (count k t : ℕ) (order : List ℕ) (passed : List Summary) (cur : Summary)
+pub record Inner (rate : ℕ → FeeFrac) (ws order₀ : List ℕ) (groups₀ : List Summary) (count k t : ℕ) (order : List ℕ) (groups : List Summary) (cur : Summary)
     (below from ahead over : ℕ) : Type 0 where
   pub same : length order ≡ length order₀
   pub small : length order ≤ 64
-  pub free : length passed ≡ 64
+  pub long : length groups ≡ 64
   pub room : Room order cur below from ahead over
-  pub scan : (gs : List Group) (rest : List ℕ) → Held ws gs (t ∷ rest) order₀ groups count k
-      → Scan ws (settle (onOf ws) (alone rate t) gs) rest order groups passed cur below from ahead over
+  pub scan : (gs : List Group) (rest : List ℕ) → Held ws gs (t ∷ rest) order₀ groups₀ count k
+      → Scan ws (settle (onOf ws) (alone rate t) gs) rest order groups cur below from ahead over
 
 pub scan-start : {ws : List ℕ} {gs : List Group} {t : ℕ} {rest order : List ℕ} {groups : List Summary} {count k : ℕ} {cur : Summary}
-    (rate : ℕ → FeeFrac) (passed : List Summary)
-    → Held ws gs (t ∷ rest) order groups count k → Stands ws cur (alone rate t)
-    → Scan ws (settle (onOf ws) (alone rate t) gs) rest order groups passed cur count k 0 0
+    (rate : ℕ → FeeFrac) → Held ws gs (t ∷ rest) order groups count k → Stands ws cur (alone rate t)
+    → Scan ws (settle (onOf ws) (alone rate t) gs) rest order groups cur count k 0 0
 unfolding behind
-scan-start {gs = gs} {t = t} rate passed v a =
+scan-start {gs = gs} {t = t} rate v a =
     record {
       bs = gs;
       os = [];
@@ -154,19 +152,19 @@ scan-start {gs = gs} {t = t} rate passed v a =
       };
     }
 
-module _ {ws : List ℕ} {goal : List Group} {rest order : List ℕ} {groups passed : List Summary} {cur : Summary} {below from ahead over : ℕ} where
-  pub uncover : (d : Summary) → Scan ws goal rest order groups passed cur below from ahead over → 0 < below
-      → Top ws goal rest order groups passed cur below from ahead over (getD groups (below - 1) d)
+module _ {ws : List ℕ} {goal : List Group} {rest order : List ℕ} {groups : List Summary} {cur : Summary} {below from ahead over : ℕ} where
+  pub uncover : (d : Summary) → Scan ws goal rest order groups cur below from ahead over → 0 < below
+      → Top ws goal rest order groups cur below from ahead over (getD groups (below - 1) d)
   uncover d v h = go (v .state .under) (v .state)
     where
-      go : {bs : List Group} → Stack ws groups bs → State ws goal rest order groups passed cur below from ahead over bs (v .os) (v .g)
-          → Top ws goal rest order groups passed cur below from ahead over (getD groups (below - 1) d)
+      go : {bs : List Group} → Near ws groups bs → State ws goal rest order groups cur below from ahead over bs (v .os) (v .g)
+          → Top ws goal rest order groups cur below from ahead over (getD groups (below - 1) d)
       go none s = absurd (omega (arith, s .low))
-      go (more p bs l n t w) s =
+      go (more p bs n t w) s =
           let e : below - 1 ≡ length bs = omega (arith, s .low) in
           record { p = p; bs = bs; os = v .os; g = v .g; state = s; under = w; top = rw e (t d) }
 
-  module _ {bs os : List Group} {g : Group} (s : State ws goal rest order groups passed cur below from ahead over bs os g) where
+  module _ {bs os : List Group} {g : Group} (s : State ws goal rest order groups cur below from ahead over bs os g) where
     abbrev front : List ℕ
     front = take ahead (behind os)
 
@@ -211,7 +209,7 @@ module _ {ws : List ℕ} {goal : List Group} {rest order : List ℕ} {groups pas
         (ap (λ (l : List ℕ). l ++ (back ++ rest)) turned ∙ append-assoc (g .txs) front (back ++ rest)
         ∙ ap (λ (l : List ℕ). g .txs ++ l) (sym (append-assoc front back rest) ∙ ap (λ (l : List ℕ). l ++ rest) (take-append-drop ahead (behind os))))
 
-  pub scan-room : Scan ws goal rest order groups passed cur below from ahead over → Room order cur below from ahead over
+  pub scan-room : Scan ws goal rest order groups cur below from ahead over → Room order cur below from ahead over
   scan-room v =
       let s = v .state in
       record {
@@ -219,7 +217,7 @@ module _ {ws : List ℕ} {goal : List Group} {rest order : List ℕ} {groups pas
         few = omega (arith, state-size s, few-flat (s .under), few-flat (s .gone), length-behind (v .os), s .low, s .high, s .current .some);
       }
 
-  pub rest-empty : Scan ws goal rest order groups passed cur below from ahead over → below ≡ 0 → Rest ws goal rest order groups passed cur below from ahead over
+  pub rest-empty : Scan ws goal rest order groups cur below from ahead over → below ≡ 0 → Rest ws goal rest order groups cur below from ahead over
   unfolding settle
   rest-empty v e = record { bs = v .bs; os = v .os; g = v .g; state = v .state; settled = go (v .bs) (omega (arith, v .state .low)) }
     where
@@ -227,7 +225,7 @@ module _ {ws : List ℕ} {goal : List Group} {rest order : List ℕ} {groups pas
       go [] n = refl
       go (b ∷ bs) n = absurd (omega arith)
 
-  module _ {prev : Summary} (u : Top ws goal rest order groups passed cur below from ahead over prev) where
+  module _ {prev : Summary} (u : Top ws goal rest order groups cur below from ahead over prev) where
     -- the group on top stands in the list before the members ahead
     pub top-len : prev .len ≤ from
     unfolding flat
@@ -254,14 +252,14 @@ module _ {ws : List ℕ} {goal : List Group} {rest order : List ℕ} {groups pas
     unfolding settle
     settle-stop h = rw (is-above ∙ h)
 
-    pub rest-top : higher (cur .rate) (prev .rate) ≡ false → Rest ws goal rest order groups passed cur below from ahead over
+    pub rest-top : higher (cur .rate) (prev .rate) ≡ false → Rest ws goal rest order groups cur below from ahead over
     rest-top h = record { bs = u .p ∷ u .bs; os = u .os; g = u .g; state = u .state; settled = settle-stop h }
 
     -- the current group moves up to the one before it, and the two are one
     pub scan-merge : {end : ℕ} {new : List ℕ} {both : Summary} → higher (cur .rate) (prev .rate) ≡ true → overlap (cur .deps) (prev .set) ≡ true
         → end ≡ from + ahead + cur .len → new ≡ drop ahead (midOf from (end - from) order) ++ take ahead (midOf from (end - from) order)
         → Joined prev cur both
-        → Scan ws goal rest (putMid from (end - from) order new) groups passed both (below - 1) (from - prev .len) 0 over
+        → Scan ws goal rest (putMid from (end - from) order new) groups both (below - 1) (from - prev .len) 0 over
     unfolding flat
     scan-merge h d e n j =
         let s = u .state in
@@ -284,10 +282,10 @@ module _ {ws : List ℕ} {goal : List Group} {rest order : List ℕ} {groups pas
         }
 
     -- the current group leaves the one before it as it is
-    pub scan-step : higher (cur .rate) (prev .rate) ≡ true → overlap (cur .deps) (prev .set) ≡ false → over < length passed
-        → Scan ws goal rest order groups (set passed over prev) cur (below - 1) (from - prev .len) (ahead + prev .len) (over + 1)
+    pub scan-step : higher (cur .rate) (prev .rate) ≡ true → overlap (cur .deps) (prev .set) ≡ false → length groups ≡ 64 → below + over < 64
+        → Scan ws goal rest order (set groups (63 - over) prev) cur (below - 1) (from - prev .len) (ahead + prev .len) (over + 1)
     unfolding flat behind
-    scan-step h d r =
+    scan-step h d l r =
         let s = u .state in
         let size : ahead + prev .len ≡ length (u .p .txs) + ahead = omega (arith, u .top .len) in
         let long = length-append (u .p .txs) (behind (u .os)) in
@@ -302,8 +300,8 @@ module _ {ws : List ℕ} {goal : List Group} {rest order : List ℕ} {groups pas
           os = u .p ∷ u .os;
           g = u .g;
           state = record {
-            under = u .under;
-            gone = rw (s .high) (stack-push (s .gone) (omega (arith, s .high)) (u .top));
+            under = stack-kept (63 - over) prev (λ n i e. omega (arith, s .low)) (u .under);
+            gone = rw (s .high) (stack-push (s .gone) (omega (arith, s .high)) (λ n i e. omega (arith, s .high)) (u .top));
             current = s .current;
             low = omega (arith, s .low);
             high = omega (arith, s .high);
@@ -321,28 +319,28 @@ module _ {ws : List ℕ} {goal : List Group} {rest order : List ℕ} {groups pas
 -- ---- after the scan
 
 -- the groups stepped over go back on top, one by one: bs stand in the array already, os are still to come
-pub record Back (ws : List ℕ) (goal : List Group) (groups passed : List Summary) (count over : ℕ) : Type 0 where
+pub record Back (ws : List ℕ) (goal : List Group) (groups : List Summary) (count over : ℕ) : Type 0 where
   pub bs : List Group
   pub os : List Group
-  pub under : Stack ws groups bs
-  pub gone : Stack ws passed os
+  pub under : Near ws groups bs
+  pub gone : Far ws groups os
   pub low : count ≡ length bs
   pub high : over ≡ length os
   pub comes : reverseAux os bs ≡ goal
 
-module _ {ws : List ℕ} {goal : List Group} {rest order : List ℕ} {groups passed : List Summary} {cur : Summary} {below from ahead over : ℕ}
-    (v : Rest ws goal rest order groups passed cur below from ahead over) where
+module _ {ws : List ℕ} {goal : List Group} {rest order : List ℕ} {groups : List Summary} {cur : Summary} {below from ahead over : ℕ}
+    (v : Rest ws goal rest order groups cur below from ahead over) where
   comes-to : reverseAux (v .os) (v .g ∷ v .bs) ≡ goal
   comes-to = ap (reverseAux (v .os)) (sym (v .settled)) ∙ v .state .comes
 
-  pub placed : below < length groups → Back ws goal (set groups below cur) passed (below + 1) over
-  placed h =
+  pub placed : length groups ≡ 64 → below + over < 64 → Back ws goal (set groups below cur) (below + 1) over
+  placed l r =
       let s = v .state in
       record {
         bs = v .g ∷ v .bs;
         os = v .os;
-        under = rw (s .low) (stack-push (s .under) (omega (arith, s .low)) (s .current));
-        gone = s .gone;
+        under = rw (s .low) (stack-push (s .under) (omega (arith, s .low)) (λ n i e. omega arith) (s .current));
+        gone = stack-kept below cur (λ n i e. omega (arith, s .high)) (s .gone);
         low = omega (arith, s .low);
         high = s .high;
         comes = comes-to;
@@ -360,39 +358,39 @@ module _ {ws : List ℕ} {goal : List Group} {rest order : List ℕ} {groups pas
       ∙ sym (append-assoc (flat (v .bs) ++ txs) gone rest)
       ∙ ap (λ (l : List ℕ). l ++ rest) (sym (flat-back (v .os) (v .g ∷ v .bs)) ∙ ap flat comes-to)
 
-pub back-turn : {ws : List ℕ} {goal : List Group} {groups passed : List Summary} {count over : ℕ} (d : Summary)
-    → Back ws goal groups passed count over → 0 < over → count < length groups
-    → Back ws goal (set groups count (getD passed (over - 1) d)) passed (count + 1) (over - 1)
-back-turn {ws} {goal} {groups} {passed} {count} {over} d v h r = go (v .gone) (v .high) (v .comes)
+pub back-turn : {ws : List ℕ} {goal : List Group} {groups : List Summary} {count over : ℕ} (d : Summary)
+    → Back ws goal groups count over → 0 < over → length groups ≡ 64 → count + over ≤ 64
+    → Back ws goal (set groups count (getD groups (63 - (over - 1)) d)) (count + 1) (over - 1)
+back-turn {ws} {goal} {groups} {count} {over} d v h l r = go (v .gone) (v .high) (v .comes)
   where
-    go : {os : List Group} → Stack ws passed os → over ≡ length os → reverseAux os (v .bs) ≡ goal
-        → Back ws goal (set groups count (getD passed (over - 1) d)) passed (count + 1) (over - 1)
+    go : {os : List Group} → Far ws groups os → over ≡ length os → reverseAux os (v .bs) ≡ goal
+        → Back ws goal (set groups count (getD groups (63 - (over - 1)) d)) (count + 1) (over - 1)
     go none e z = absurd (omega arith)
-    go (more p os l n t w) e z =
+    go (more p os n t w) e z =
         let i : over - 1 ≡ length os = omega arith in
         record {
           bs = p ∷ v .bs;
           os = os;
-          under = rw (v .low) (stack-push (v .under) (omega (arith, v .low)) (rw i (t d)));
-          gone = w;
+          under = rw (v .low) (stack-push (v .under) (omega (arith, v .low)) (λ n j x. omega arith) (rw i (t d)));
+          gone = stack-kept count (getD groups (63 - (over - 1)) d) (λ n j x. omega arith) w;
           low = omega (arith, v .low);
           high = i;
           comes = z;
         }
 
 -- all are back
-pub back-done : {ws : List ℕ} {goal : List Group} {groups passed : List Summary} {count over : ℕ} → Back ws goal groups passed count over → over ≤ 0
-    → (Stack ws groups goal) × (count ≡ length goal)
-back-done {ws} {goal} {groups} {passed} {count} {over} v h = go (v .os) (omega (arith, v .high)) (v .comes)
+pub back-done : {ws : List ℕ} {goal : List Group} {groups : List Summary} {count over : ℕ} → Back ws goal groups count over → over ≤ 0
+    → (Near ws groups goal) × (count ≡ length goal)
+back-done {ws} {goal} {groups} {count} {over} v h = go (v .os) (omega (arith, v .high)) (v .comes)
   where
-    go : (os : List Group) → length os ≤ 0 → reverseAux os (v .bs) ≡ goal → (Stack ws groups goal) × (count ≡ length goal)
+    go : (os : List Group) → length os ≤ 0 → reverseAux os (v .bs) ≡ goal → (Near ws groups goal) × (count ≡ length goal)
     go [] n z = (rw z at (v .under), v .low ∙ ap length z)
     go (o ∷ os) n z = absurd (omega arith)
 
 -- ---- a member, from the head of the loop to its end
 
-module _ {rate : ℕ → FeeFrac} {ws order₀ order : List ℕ} {groups passed : List Summary} {count k : ℕ}
-    (v : Outer rate ws order₀ order groups passed count k) (h : k < length order₀) where
+module _ {rate : ℕ → FeeFrac} {ws order₀ order : List ℕ} {groups : List Summary} {count k : ℕ}
+    (v : Outer rate ws order₀ order groups count k) (h : k < length order₀) where
   abbrev gs : List Group
   gs = groupsAfter rate (onOf ws) [] (take k order₀)
 
@@ -410,12 +408,11 @@ module _ {rate : ℕ → FeeFrac} {ws order₀ order : List ℕ} {groups passed 
         lies = rw (add-one, next-is) (v .held .lies ∙ ap (λ (l : List ℕ). flat gs ++ l) (drop-cons order₀ k 0 h));
       }
 
-  pub outer-again : {order′ : List ℕ} {groups′ passed′ : List Summary} {count′ : ℕ}
-      → (Stack ws groups′ (settle (onOf ws) (alone rate (getD order k 0)) gs)) × (count′ ≡ length (settle (onOf ws) (alone rate (getD order k 0)) gs))
+  pub outer-again : {order′ : List ℕ} {groups′ : List Summary} {count′ : ℕ}
+      → (Near ws groups′ (settle (onOf ws) (alone rate (getD order k 0)) gs)) × (count′ ≡ length (settle (onOf ws) (alone rate (getD order k 0)) gs))
       → order′ ≡ flat (settle (onOf ws) (alone rate (getD order k 0)) gs) ++ drop (k + 1) order₀
-      → length order′ ≡ length order → length groups′ ≡ 64 → length passed′ ≡ 64
-      → Outer rate ws order₀ order′ groups′ passed′ count′ (k + 1)
-  outer-again {order′} {groups′} {passed′} {count′} b e same long free =
+      → length order′ ≡ length order → length groups′ ≡ 64 → Outer rate ws order₀ order′ groups′ count′ (k + 1)
+  outer-again {order′} {groups′} {count′} b e same long =
       let goal = settle (onOf ws) (alone rate (getD order k 0)) gs in
       let is : groupsAfter rate (onOf ws) [] (take (k + 1) order₀) ≡ goal =
       rw (add-one, take-suc order₀ k 0 h, after-snoc, next-is)
@@ -431,34 +428,33 @@ module _ {rate : ℕ → FeeFrac} {ws order₀ order : List ℕ} {groups passed 
         same = same ∙ v .same;
         small = omega (arith, v .small);
         long = long;
-        free = free;
       }
 
 -- all members are in their groups
-pub outer-done : {rate : ℕ → FeeFrac} {ws order₀ order : List ℕ} {groups passed : List Summary} {count k : ℕ}
-    → Outer rate ws order₀ order groups passed count k → length order₀ ≤ k → order ≡ onePass rate (onOf ws) order₀
+pub outer-done : {rate : ℕ → FeeFrac} {ws order₀ order : List ℕ} {groups : List Summary} {count k : ℕ}
+    → Outer rate ws order₀ order groups count k → length order₀ ≤ k → order ≡ onePass rate (onOf ws) order₀
 unfolding onePass
 outer-done {rate} {ws} {order₀} {k = k} v h =
     v .held .lies
     ∙ ap₂ (λ (l m : List ℕ). flat (groupsAfter rate (onOf ws) [] l) ++ m) (take-all k order₀ h) (drop-of-length-le order₀ h)
     ∙ append-nil (flat (groupsAfter rate (onOf ws) [] order₀))
 
-module _ {rate : ℕ → FeeFrac} {ws order₀ order : List ℕ} {groups passed : List Summary} {count k : ℕ} where
+module _ {rate : ℕ → FeeFrac} {ws order₀ order : List ℕ} {groups : List Summary} {count k : ℕ} where
   -- the member is a group of its own, on top of the others
-  pub inner-start : {cur : Summary} → Outer rate ws order₀ order groups passed count k → k < length order₀ → Stands ws cur (alone rate (getD order k 0))
-      → Inner rate ws order groups count k (getD order k 0) order passed cur count k 0 0
+  pub inner-start : {cur : Summary} → Outer rate ws order₀ order groups count k → k < length order₀ → Stands ws cur (alone rate (getD order k 0))
+      → Inner rate ws order groups count k (getD order k 0) order groups cur count k 0 0
   inner-start v h a =
       record {
         same = refl;
         small = v .small;
-        free = v .free;
-        room = scan-room (scan-start rate passed (outer-next v h) a);
-        scan = λ gs rest g. scan-start rate passed g a;
+        long = v .long;
+        room = scan-room (scan-start rate (outer-next v h) a);
+        scan = λ gs rest g. scan-start rate g a;
       }
 
-module _ {rate : ℕ → FeeFrac} {ws order₀ : List ℕ} {groups : List Summary} {count k t : ℕ} {order : List ℕ} {passed : List Summary} {cur : Summary}
+module _ {rate : ℕ → FeeFrac} {ws order₀ : List ℕ} {groups₀ : List Summary} {count k t : ℕ} {order : List ℕ} {groups : List Summary} {cur : Summary}
     {below from ahead over : ℕ} {gs : List Group} {rest : List ℕ}
-    (v : Inner rate ws order₀ groups count k t order passed cur below from ahead over) (held : Held ws gs (t ∷ rest) order₀ groups count k)
+    (v : Inner rate ws order₀ groups₀ count k t order groups cur below from ahead over) (held : Held ws gs (t ∷ rest) order₀ groups₀ count k)
     (some : 0 < below) (d : Summary) where
   abbrev prev : Summary
   prev = getD groups (below - 1) d
@@ -469,26 +465,27 @@ module _ {rate : ℕ → FeeFrac} {ws order₀ : List ℕ} {groups : List Summar
   pub inner-merge : {end : ℕ} {new : List ℕ} {both : Summary} → higher (cur .rate) (prev .rate) ≡ true → overlap (cur .deps) (prev .set) ≡ true
       → end ≡ from + ahead + cur .len → new ≡ drop ahead (midOf from (end - from) order) ++ take ahead (midOf from (end - from) order)
       → Joined prev cur both
-      → Inner rate ws order₀ groups count k t (putMid from (end - from) order new) passed both (below - 1) (from - prev .len) 0 over
+      → Inner rate ws order₀ groups₀ count k t (putMid from (end - from) order new) groups both (below - 1) (from - prev .len) 0 over
   inner-merge {end} {new} h o e n j =
       let long = length-rotated from (end - from) ahead order n in
       record {
         same = long ∙ v .same;
         small = omega (arith, v .small);
-        free = v .free;
+        long = v .long;
         room = scan-room (scan-merge (uncover d (v .scan gs rest held) some) h o e n j);
         scan = λ gs rest held. scan-merge (uncover d (v .scan gs rest held) some) h o e n j;
       }
 
-  pub inner-step : higher (cur .rate) (prev .rate) ≡ true → overlap (cur .deps) (prev .set) ≡ false → over < length passed
-      → Inner rate ws order₀ groups count k t order (set passed over prev) cur (below - 1) (from - prev .len) (ahead + prev .len) (over + 1)
-  inner-step h o r =
+  pub inner-step : higher (cur .rate) (prev .rate) ≡ true → overlap (cur .deps) (prev .set) ≡ false
+      → Inner rate ws order₀ groups₀ count k t order (set groups (63 - over) prev) cur (below - 1) (from - prev .len) (ahead + prev .len) (over + 1)
+  inner-step h o =
+      let apart : below + over < 64 = omega (arith, v .room .few, v .small) in
       record {
         same = v .same;
         small = v .small;
-        free = length-set passed over prev ∙ v .free;
-        room = scan-room (scan-step (uncover d (v .scan gs rest held) some) h o r);
-        scan = λ gs rest held. scan-step (uncover d (v .scan gs rest held) some) h o r;
+        long = length-set groups (63 - over) prev ∙ v .long;
+        room = scan-room (scan-step (uncover d (v .scan gs rest held) some) h o (v .long) apart);
+        scan = λ gs rest held. scan-step (uncover d (v .scan gs rest held) some) h o (v .long) apart;
       }
 
 -- why the scan ends, and at what index: no group is left, or the one before is not lower
@@ -500,19 +497,19 @@ pub stopped-at : {groups : List Summary} {cur : Summary} {below at : ℕ} → St
 stopped-at (at-bottom e) = sym e
 stopped-at (at-top d h e) = refl
 
-module _ {rate : ℕ → FeeFrac} {ws order₀ : List ℕ} {groups : List Summary} {count k t : ℕ} {order : List ℕ} {passed : List Summary} {cur : Summary}
+module _ {rate : ℕ → FeeFrac} {ws order₀ : List ℕ} {groups₀ : List Summary} {count k t : ℕ} {order : List ℕ} {groups : List Summary} {cur : Summary}
     {below from ahead over at : ℕ} {gs : List Group} {rest : List ℕ}
-    (v : Inner rate ws order₀ groups count k t order passed cur below from ahead over) (held : Held ws gs (t ∷ rest) order₀ groups count k)
+    (v : Inner rate ws order₀ groups₀ count k t order groups cur below from ahead over) (held : Held ws gs (t ∷ rest) order₀ groups₀ count k)
     (stop : Stopped groups cur below at) where
-  inner-rest : Rest ws (settle (onOf ws) (alone rate t) gs) rest order groups passed cur below from ahead over
+  inner-rest : Rest ws (settle (onOf ws) (alone rate t) gs) rest order groups cur below from ahead over
   inner-rest = go stop
     where
-      go : {at : ℕ} → Stopped groups cur below at → Rest ws (settle (onOf ws) (alone rate t) gs) rest order groups passed cur below from ahead over
+      go : {at : ℕ} → Stopped groups cur below at → Rest ws (settle (onOf ws) (alone rate t) gs) rest order groups cur below from ahead over
       go (at-bottom e) = rest-empty (v .scan gs rest held) e
       go (at-top d h e) = rest-top (uncover d (v .scan gs rest held) h) e
 
-  pub inner-placed : below < length groups → Back ws (settle (onOf ws) (alone rate t) gs) (set groups at cur) passed (at + 1) over
-  inner-placed h = rw (stopped-at stop) (placed inner-rest h)
+  pub inner-placed : Back ws (settle (onOf ws) (alone rate t) gs) (set groups at cur) (at + 1) over
+  inner-placed = rw (stopped-at stop) (placed inner-rest (v .long) (omega (arith, v .room .few, v .small)))
 
   pub inner-lies : {end : ℕ} {new : List ℕ} → end ≡ from + ahead + cur .len
       → new ≡ drop ahead (midOf from (end - from) order) ++ take ahead (midOf from (end - from) order)
@@ -525,21 +522,21 @@ module _ {rate : ℕ → FeeFrac} {ws order₀ : List ℕ} {groups : List Summar
   inner-same {end} e n = length-rotated from (end - from) ahead order n ∙ v .same
 
 -- at the head of the loop that puts the groups stepped over back: whatever the groups are
-pub record Moved (ws : List ℕ) (groups₀ passed : List Summary) (count₀ over₀ : ℕ) (groups : List Summary) (count over : ℕ) : Type 0 where
+pub record Moved (ws : List ℕ) (groups₀ : List Summary) (count₀ over₀ : ℕ) (groups : List Summary) (count over : ℕ) : Type 0 where
   pub long : length groups ≡ 64
   pub room : count + over ≤ 64
-  pub back : (goal : List Group) → Back ws goal groups₀ passed count₀ over₀ → Back ws goal groups passed count over
+  pub back : (goal : List Group) → Back ws goal groups₀ count₀ over₀ → Back ws goal groups count over
 
-pub moved-start : {ws : List ℕ} {groups passed : List Summary} {count over : ℕ} → length groups ≡ 64 → count + over ≤ 64
-    → Moved ws groups passed count over groups count over
+pub moved-start : {ws : List ℕ} {groups : List Summary} {count over : ℕ} → length groups ≡ 64 → count + over ≤ 64
+    → Moved ws groups count over groups count over
 moved-start l r = record { long = l; room = r; back = λ goal b. b }
 
-pub moved-turn : {ws : List ℕ} {groups₀ passed : List Summary} {count₀ over₀ : ℕ} {groups : List Summary} {count over : ℕ} (d : Summary)
-    → Moved ws groups₀ passed count₀ over₀ groups count over → 0 < over
-    → Moved ws groups₀ passed count₀ over₀ (set groups count (getD passed (over - 1) d)) (count + 1) (over - 1)
-moved-turn {passed = passed} {groups = groups} {count = count} {over = over} d v h =
+pub moved-turn : {ws : List ℕ} {groups₀ : List Summary} {count₀ over₀ : ℕ} {groups : List Summary} {count over : ℕ} (d : Summary)
+    → Moved ws groups₀ count₀ over₀ groups count over → 0 < over
+    → Moved ws groups₀ count₀ over₀ (set groups count (getD groups (63 - (over - 1)) d)) (count + 1) (over - 1)
+moved-turn {groups = groups} {count = count} {over = over} d v h =
     record {
-      long = length-set groups count (getD passed (over - 1) d) ∙ v .long;
+      long = length-set groups count (getD groups (63 - (over - 1)) d) ∙ v .long;
       room = omega (arith, v .room);
-      back = λ goal b. back-turn d (v .back goal b) h (omega (arith, v .room, v .long));
+      back = λ goal b. back-turn d (v .back goal b) h (v .long) (v .room);
     }

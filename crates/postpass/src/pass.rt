@@ -1,5 +1,7 @@
-// One pass. The groups stand in an array, the last on top; the members of all groups stand in the list itself, one group
-// after the other, so that a merge moves nothing and a group that steps forward is one rotation.
+// One pass. The groups stand in an array from its start, the last on top; those that the current group stepped over wait
+// at the array's end, the last one lowest. The two never meet: besides the current group there are fewer than 64 of both
+// together. The members of all groups stand in the list itself, one group after the other, so that a merge moves nothing
+// and a group that steps forward is one rotation.
 ghost use mathlib.Core.Path.{_≡_};
 ghost use Prim.Native.Nat.{_+_, _<_};
 ghost use lib.ListN.{length};
@@ -22,6 +24,18 @@ pub struct Group {
 }
 
 impl Group {
+    // An empty place. It is all zero, so that an array of it is cleared at once.
+    fn none() -> Group
+        ensures { λ r. ⌜ r .len ≡ 0 ⌝ }
+    {
+        Group {
+            len: 0,
+            set: TxSet::empty(),
+            deps: TxSet::empty(),
+            rate: FeeFrac::zero(),
+        }
+    }
+
     fn alone(t: usize, deps: TxSet, rate: FeeFrac) -> Group
         ensures { λ r. ⌜ Single t deps rate r ⌝ }
     {
@@ -66,9 +80,8 @@ pub fn one_pass(fees: &[i64], sizes: &[u64], deps: &[u64], back: bool, order: &m
     if 64 < n {
         return;
     }
-    let none = Group::alone(64, TxSet::empty(), FeeFrac::zero());
+    let none = Group::none();
     let mut groups = [none; 64];
-    let mut passed = [none; 64];
     let mut count: usize = 0;
     let mut k: usize = 0;
     while k < n {
@@ -76,6 +89,7 @@ pub fn one_pass(fees: &[i64], sizes: &[u64], deps: &[u64], back: bool, order: &m
         let mut cur = Group::alone(t, TxSet::at(deps, t), feerate(fees, sizes, back, t));
         // The scan yields the place where the group comes to rest. Before `from` stand the groups below that place,
         // then `ahead` members of groups that it passed since it last merged, then its own, then those it passed before.
+        // The summaries of the `over` groups that it passed wait at the array's end.
         let mut below = count;
         let mut from = k;
         let mut ahead: usize = 0;
@@ -97,7 +111,7 @@ pub fn one_pass(fees: &[i64], sizes: &[u64], deps: &[u64], back: bool, order: &m
                 cur = cur.absorb_before(prev);
                 ahead = 0;
             } else {
-                passed[over] = prev;
+                groups[63 - over] = prev;
                 over += 1;
                 ahead += prev.len;
             }
@@ -108,7 +122,8 @@ pub fn one_pass(fees: &[i64], sizes: &[u64], deps: &[u64], back: bool, order: &m
         count = at + 1;
         while 0 < over {
             over -= 1;
-            groups[count] = passed[over];
+            let prev = groups[63 - over];
+            groups[count] = prev;
             count += 1;
         }
         k += 1;

@@ -13,29 +13,29 @@ use Rattle.postpass.proofs.pass.one_pass.Statement.{statement}
 use Rattle.postpass.proofs.pass.one_pass.Tie as tie
 
 abbrev Inv-loop2 : tie.InvT-loop2
-Inv-loop2 fees sizes deps back order₀ n groups passed₀ count k t cur₀ below₀ from₀ ahead₀ over₀ order passed cur below from ahead over =
-    Inner (turned back fees sizes) deps order₀ groups count k t order passed cur below from ahead over
+Inv-loop2 fees sizes deps back order₀ n groups₀ count k t cur₀ below₀ from₀ ahead₀ over₀ order groups cur below from ahead over =
+    Inner (turned back fees sizes) deps order₀ groups₀ count k t order groups cur below from ahead over
 
 abbrev μ-loop2 : tie.MeasureT-loop2
-μ-loop2 fees sizes deps back order₀ n groups passed₀ count k t cur₀ below₀ from₀ ahead₀ over₀ order passed cur below from ahead over = below
+μ-loop2 fees sizes deps back order₀ n groups₀ count k t cur₀ below₀ from₀ ahead₀ over₀ order groups cur below from ahead over = below
 
 abbrev Inv-loop3 : tie.InvT-loop3
-Inv-loop3 fees sizes deps back order n groups₀ passed count₀ k t below from ahead over₀ at end groups count over =
-    Moved deps groups₀ passed count₀ over₀ groups count over
+Inv-loop3 fees sizes deps back order n groups₀ count₀ k t below from ahead over₀ at end groups count over =
+    Moved deps groups₀ count₀ over₀ groups count over
 
 abbrev μ-loop3 : tie.MeasureT-loop3
-μ-loop3 fees sizes deps back order n groups₀ passed count₀ k t below from ahead over₀ at end groups count over = over
+μ-loop3 fees sizes deps back order n groups₀ count₀ k t below from ahead over₀ at end groups count over = over
 
 abbrev Inv-loop : tie.InvT-loop
-Inv-loop fees sizes deps back order₀ n groups₀ passed₀ count₀ k₀ order groups passed count k =
-    Outer (turned back fees sizes) deps order₀ order groups passed count k
+Inv-loop fees sizes deps back order₀ n groups₀ count₀ k₀ order groups count k =
+    Outer (turned back fees sizes) deps order₀ order groups count k
 
 abbrev μ-loop : tie.MeasureT-loop
-μ-loop fees sizes deps back order₀ n groups₀ passed₀ count₀ k₀ order groups passed count k = n - k
+μ-loop fees sizes deps back order₀ n groups₀ count₀ k₀ order groups count k = n - k
 
 -- how the scan was left
 stopped : (c : tie.Joined2 Inv-loop2 μ-loop2 Inv-loop3 μ-loop3 Inv-loop μ-loop)
-    → Stopped (c .before .before .before .before .before .before .before .loop .groups) (c .before .loop2 .cur) (c .before .loop2 .below) (c .if2 .at)
+    → Stopped (c .before .loop2 .groups) (c .before .loop2 .cur) (c .before .loop2 .below) (c .if2 .at)
 stopped c =
     ⊎-elim
     (λ w. rw (w .1) (at-bottom (w .0 .taken)))
@@ -46,13 +46,13 @@ returns : tie.Need-returns Inv-loop2 μ-loop2 Inv-loop3 μ-loop3 Inv-loop μ-loo
 returns c = rw (lt-leb _ 64 (c .if1 .taken))
 
 loop-holds : tie.Need-loop-holds Inv-loop2 μ-loop2 Inv-loop3 μ-loop3 Inv-loop μ-loop
-loop-holds c = outer-start _ _ _ _ _ refl refl (c .before .before .before .if1 .left)
+loop-holds c = outer-start _ _ _ _ refl (c .before .if1 .left)
 
 loop2-holds : tie.Need-loop2-holds Inv-loop2 μ-loop2 Inv-loop3 μ-loop3 Inv-loop μ-loop
 loop2-holds c =
     let loop = c .before .before .before .before in
     inner-start (loop .before .loop .inv) (search needs)
-    (single-stands (c .alone2 .ensures) (c .before .before .at .ensures) (c .before .feerate .ensures))
+    (single-stands (c .alone .ensures) (c .before .before .at .ensures) (c .before .feerate .ensures))
 
 sub-from : tie.Need-sub-from Inv-loop2 μ-loop2 Inv-loop3 μ-loop3 Inv-loop μ-loop
 sub-from c =
@@ -91,7 +91,6 @@ loop2-again-2 c =
     let member = loop .before .before .before .before .before in
     inner-step (loop .loop2 .inv) (outer-next (member .before .loop .inv) (search needs)) (search needs) _
     (sym (rate .before .higher-rate .ensures) ∙ not-false _ (rate .if3 .left)) (sym (step .before .overlaps .ensures) ∙ step .if4 .left)
-    (search needs)
 
 -- the index at which the current group is stored
 at-small : (c : tie.After-row-known Inv-loop2 μ-loop2 Inv-loop3 μ-loop3 Inv-loop μ-loop)
@@ -103,8 +102,7 @@ at-small c =
 loop3-holds : tie.Need-loop3-holds Inv-loop2 μ-loop2 Inv-loop3 μ-loop3 Inv-loop μ-loop
 loop3-holds c =
     let end = c .before .before .before .before .before .before in
-    let loop = end .before .before .before .before .before .before .before .loop .inv in
-    moved-start (simp length-set (loop .long)) (omega (arith, stopped-at (stopped end), end .before .loop2 .inv))
+    moved-start (simp length-set (end .before .loop2 .inv .long)) (omega (arith, stopped-at (stopped end), end .before .loop2 .inv))
 
 loop3-again : tie.Need-loop3-again Inv-loop2 μ-loop2 Inv-loop3 μ-loop3 Inv-loop μ-loop
 loop3-again c =
@@ -121,17 +119,16 @@ loop-again c =
     let outer = member .before .loop .inv in
     let next = outer-next outer (search needs) in
     outer-again outer (search needs)
-    (back-done (back .loop3 .inv .back _ (inner-placed scan next (stopped end) (omega (arith, scan, outer .long)))) (c .loop3-test .left))
+    (back-done (back .loop3 .inv .back _ (inner-placed scan next (stopped end))) (c .loop3-test .left))
     (inner-lies scan next (stopped end) refl (rotate .rotate2 .ensures))
     (inner-same scan next (stopped end) refl (rotate .rotate2 .ensures))
     (back .loop3 .inv .long)
-    (scan .free)
 
 same-length : tie.Need-same-length Inv-loop2 μ-loop2 Inv-loop3 μ-loop3 Inv-loop μ-loop
 same-length c = c .before .loop .inv .same
 
 returns-2 : tie.Need-returns-2 Inv-loop2 μ-loop2 Inv-loop3 μ-loop3 Inv-loop μ-loop
-returns-2 c = rw (le-leb _ 64 (c .before .before .before .before .before .if1 .left)) (outer-done (c .before .loop .inv) (c .loop-test .left))
+returns-2 c = rw (le-leb _ 64 (c .before .before .before .if1 .left)) (outer-done (c .before .loop .inv) (c .loop-test .left))
 
 pub one-pass-spec : {M : Type 1} → statement M
 one-pass-spec =
@@ -144,8 +141,6 @@ one-pass-spec =
     Inv-loop
     μ-loop
     returns
-    (λ c κs. search needs)
-    (λ c κs. search needs)
     (λ c κs. search needs)
     loop-holds
     (λ c. search needs)
@@ -174,6 +169,7 @@ one-pass-spec =
     (λ c. search needs)
     (λ c. search needs)
     (λ c. search needs)
+    (λ c. search needs)
     add-ahead
     (λ c. search needs)
     loop2-again-2
@@ -188,6 +184,7 @@ one-pass-spec =
     (λ c. omega (arith, at-small c))
     (λ c. omega (arith, at-small c))
     loop3-holds
+    (λ c. search needs)
     (λ c. search needs)
     (λ c. search needs)
     (λ c. search needs)
