@@ -21,12 +21,12 @@ use Rattle.feeset.specs.Total.{total}
 use Rattle.feeset.specs.Scan.{best, ranksAbove}
 use Rattle.candidates.specs.Candidates.{givenBack, ancestorSum, remaining, candidate, remainingAncestors, fewerAncestors}
 use Rattle.candidates.specs.Candidates.{appendAncestors, appendFor, rounds, ancestorOrder, fits, written, filled}
-use Rattle.candidates.specs.Steps.{ancestorIn, fewerIn, sorted, Appended}
+use Rattle.candidates.specs.Steps.{ancestorIn, fewerIn, sorted, Turned, GaveBack, Appended}
 use Rattle.txset.proofs.Bools.{and-left}
 use Rattle.txset.proofs.Lists.{elem-append, without-append}
 use Rattle.txset.proofs.Ranges.{list-below, count-below, count-le, count-parts}
 use Rattle.feeset.proofs.Scan.{best-ext}
-use Rattle.candidates.proofs.Sums.{back-append}
+use Rattle.candidates.proofs.Sums.{back-append, back-ext}
 
 -- all members are out: nothing more is taken
 pub rounds-none : (fs : List ℤ) (ss : List ℕ) (n : ℕ) (anc : ℕ → ℕ → Bool) (k : ℕ) (out : List ℕ) → remaining n out ≡ []
@@ -249,12 +249,12 @@ module _
             ∙ ap (λ (k : ℕ). drop k room) d
 
         -- one round
-        pub take-turn : (feesums' : List ℤ) (sizesums' : List ℕ) → length feesums' ≡ positions → length sizesums' ≡ positions → round < n
-            → ((i : ℕ) → mem rest i ≡ true
-            → rateAt feesums' sizesums' i ≡ givenBack fs ss (anc ws i) (rateAt feesums sizesums i) (take (end - len) (drop len last)))
+        pub take-turn : (below : List ℕ) → Turned ws n below
+            → (feesums' : List ℤ) (sizesums' : List ℕ) → length feesums' ≡ positions → length sizesums' ≡ positions → round < n
+            → GaveBack fs ss below rest (take (end - len) (drop len last)) (rateAt feesums sizesums) (rateAt feesums' sizesums')
             → Taking fs ss ws n room last feesums' sizesums' rest end (round + 1)
         unfolding ancestorSum rounds new
-        take-turn feesums' sizesums' a b l back =
+        take-turn below turned feesums' sizesums' a b l back =
             let many : length new ≡ size some = app .many in
             let next : n - round ≡ suc (n - (round + 1)) = omega arith in
             record {
@@ -270,7 +270,8 @@ module _
                   without i ∙ ap₂ (λ (b c : Bool). b && not c) (h .left i) (sym (app .holds i)) ∙ without-append (ltb i n) i (h .out) new;
               sums = λ i m.
                   back i m
-                  ∙ ap₂ (givenBack fs ss (anc ws i)) (h .sums i (and-left (mem todo i) (not (mem some i)) (sym (without i) ∙ m))) gone-is
+                  ∙ back-ext fs ss (λ t. mem (setAt below t) i) (anc ws i) (below-is i m) (rateAt feesums sizesums i) (take (end - len) (drop len last))
+                  ∙ ap₂ (givenBack fs ss (anc ws i)) (h .sums i (was-left i m)) gone-is
                   ∙ sym (back-append fs ss (anc ws i) (total fs ss (listFrom (anc ws i) n 0)) (h .out) new);
               fees = a;
               sizes = b;
@@ -278,6 +279,15 @@ module _
                   app .are ∙ ap₂ (λ (x y : List ℕ). x ++ (new ++ y)) front behind ∙ sym (append-assoc (h .out) new (drop end room));
               long = kept ∙ h .long;
             }
+          where
+            was-left : (i : ℕ) → mem rest i ≡ true → mem todo i ≡ true
+            was-left i m = and-left (mem todo i) (not (mem some i)) (sym (without i) ∙ m)
+
+            -- a member is below its ancestors
+            below-is : (i : ℕ) → mem rest i ≡ true → (t : ℕ) → mem (setAt below t) i ≡ anc ws i t
+            below-is i m t =
+                turned t i
+                ∙ ap (λ (b : Bool). b && anc ws i t) (and-left (ltb i n) (not (elem i (h .out))) (sym (h .left i) ∙ was-left i m))
 
 -- ---- what the function promises
 
