@@ -1,3 +1,4 @@
 pub mod Order
 pub mod Cases
 pub mod Theorems
+pub mod Few

@@ -30,22 +30,35 @@ pub fn linearize(fees: &[i64], sizes: &[u64], parents: &[u64], room: &mut [usize
     if refusals::first_outside(fees) < n {
         return Reply::refused(refusals::OUT_OF_RANGE);
     }
+    // A member alone, the most common cluster, needs no graph: it has one order.
+    if n == 0 {
+        return Reply::wrote(0);
+    }
+    if n == 1 {
+        room[0] = 0;
+        return Reply::wrote(1);
+    }
     let graph = DepGraph::new(parents);
     if graph.cyclic {
         return Reply::refused(refusals::CYCLE);
     }
-    let ancestors = graph.ancestors;
-    let descendants = graph.descendants;
     let mut order = [0usize; 64];
-    Reply::wrote(order_members(fees, sizes, &ancestors, &descendants, &mut order[..n], room))
+    Reply::wrote(order_members(
+        fees,
+        sizes,
+        &graph.ancestors,
+        &graph.descendants,
+        &mut order[..n],
+        room,
+    ))
 }
 
 // The four steps: ancestor sets by feerate into `order`, the two post passes there, and the output order into the room.
-fn order_members(
+fn order_members<'g>(
     fees: &[i64],
     sizes: &[u64],
-    ancestors: &[u64],
-    descendants: &[u64],
+    ancestors: &'g [u64],
+    descendants: &'g [u64],
     order: &mut [usize],
     room: &mut [usize],
 ) -> usize

@@ -8,10 +8,11 @@ use lib.Seq.{length-take-le}
 use borrow.Author.Needs.{needs}
 use Rattle.txset.specs.Sets.{positions}
 use Rattle.depgraph.specs.Closed.{Closed}
-use Rattle.refusals.specs.Refusals.{success, differ₃, firstOutside}
+use Rattle.refusals.specs.Refusals.{answerOf, success, differ₃, firstOutside}
 use Rattle.postlin.proofs.Checks.{sizes-differ, parents-differ, all-alike, whole, refused, wrote}
-use Rattle.linearize.specs.Linearize.{reply, roomAfter}
+use Rattle.linearize.specs.Linearize.{refusals, reply, roomAfter}
 use Rattle.linearize.proofs.Order.{first-1, first-2, first-11, first-3, first-4, first-none, ready, linear-done}
+use Rattle.linearize.proofs.Few.{few-acyclic, none-order, alone-order, none-room, alone-room}
 use Rattle.linearize.proofs.linearize.Statement.{statement}
 use Rattle.linearize.proofs.linearize.Tie as tie
 
@@ -46,67 +47,90 @@ returns-5 c =
     (omega (arith, c .before .before .first-outside .ensures)))
     (c .refused5 .ensures)
 
--- once the graph is made: what the tests before it leave
-module _ (d : tie.After-new) where
+-- once the fees are seen to be in their range: what the tests before leave
+module _ (e : tie.Else5) where
   start : tie.Start
-  start = d .before .before .before .before .before .before .before .before .before .before
+  start = e .before .before .before .before .before .before .before .before .before
 
   alike : differ₃ (length (start .args .fees .now)) (length (start .args .sizes .now)) (length (start .args .parents .now)) ≡ false
   unfolding start
-  alike = let t = d .before .before .before in all-alike _ _ _ (t .before .before .before .if1 .left) (t .before .before .if2 .left)
+  alike = let t = e .before .before in all-alike _ _ _ (t .before .before .before .if1 .left) (t .before .before .if2 .left)
 
   few : length (start .args .fees .now) ≤ positions
   unfolding start
-  few = d .before .before .before .before .if3 .left
+  few = e .before .before .before .if3 .left
 
   wide : length (start .args .fees .now) ≤ length (start .args .room .now)
   unfolding start
-  wide = d .before .before .before .if4 .left
+  wide = e .before .before .if4 .left
 
   ranged : length (start .args .fees .now) ≤ firstOutside (start .args .fees .now)
   unfolding start
-  ranged = omega (arith, d .before .before .first-outside .ensures, d .before .if5 .left)
+  ranged = omega (arith, e .before .first-outside .ensures, e .if5 .left)
 
   as-long : length (start .args .parents .now) ≡ length (start .args .fees .now)
   unfolding start
-  as-long = d .before .before .before .before .before .if2 .left
+  as-long = e .before .before .before .before .if2 .left
 
-  graph : Closed (start .args .parents .now) (d .new .result)
-  unfolding start
-  graph = whole _ _ (omega (arith, as-long, few)) (d .new .ensures)
+  -- no cycle among one member or none: nothing is refused
+  answers : length (start .args .fees .now) ≤ 1 → answerOf (refusals (start .args .fees .now) (start .args .sizes .now) (start .args .parents .now) (start .args .room .now)) ≡ 0
+  answers h = first-none _ _ _ _ alike few wide ranged (few-acyclic _ (omega (arith, as-long)))
 
 returns-6 : tie.Need-returns-6
 unfolding reply roomAfter start
 returns-6 c =
+    let e = c .before .before in
+    let o = none-order _ _ _ (as-long e) (c .before .if6 .taken) in
+    wrote _ _ _ _ (answers e (omega (arith, c .before .if6 .taken))) (c .wrote .ensures ∙ ap (λ (l : List ℕ). success (length l)) (sym o)) (none-room _ _ o)
+
+returns-7 : tie.Need-returns-7
+unfolding reply roomAfter start
+returns-7 c =
+    let t = c .before in
+    let e = t .before .before in
+    let o = alone-order _ _ _ (as-long e) (t .if7 .taken) in
+    wrote _ _ _ _ (answers e (omega (arith, t .if7 .taken))) (c .wrote2 .ensures ∙ ap (λ (l : List ℕ). success (length l)) (sym o))
+    (alone-room _ _ o (omega (arith, wide e, t .if7 .taken)))
+
+-- once the graph is made
+graph : (d : tie.After-new) → Closed (start (d .before .before .before) .args .parents .now) (d .new .result)
+unfolding start
+graph d = whole _ _ (let e = d .before .before .before in omega (arith, as-long e, few e)) (d .new .ensures)
+
+returns-8 : tie.Need-returns-8
+unfolding reply roomAfter start
+returns-8 c =
     let d = c .before .before in
-    refused _ _ _ _ 3 (first-4 _ _ _ _ (alike d) (few d) (wide d) (ranged d) (sym (graph d .cyclic) ∙ c .before .if6 .taken)) (c .refused6 .ensures)
+    let e = d .before .before .before in
+    refused _ _ _ _ 3 (first-4 _ _ _ _ (alike e) (few e) (wide e) (ranged e) (sym (graph d .cyclic) ∙ c .before .if8 .taken)) (c .refused6 .ensures)
 
 abbrev zeros : List ℕ
 zeros = replicate 64 0
 
 -- the list that takes the order is as long as the members are many
-own-length : (o : tie.After-order) → length (take (length (start (o .before .before .before .before .before .before) .args .fees .now)) zeros)
-    ≡ length (start (o .before .before .before .before .before .before) .args .fees .now)
-own-length o = length-take-le _ zeros (few (o .before .before .before .before .before .before))
+own-length : (e : tie.Else5) → length (take (length (start e .args .fees .now)) zeros) ≡ length (start e .args .fees .now)
+own-length e = length-take-le _ zeros (few e)
 
-slice-aggregate : tie.Need-slice-aggregate-order-members-3
+slice-aggregate : tie.Need-slice-aggregate-order-members
 unfolding start
-slice-aggregate c = sym (own-length c)
+slice-aggregate c = sym (own-length (c .before .before .before .before .before .before .before .before .before .before))
 
 order-members-requires : tie.Need-order-members-requires
 unfolding start
 order-members-requires c κs =
-    let d = c .before .before .before .before .before .before .before in
-    ready (graph d) (as-long d) (few d) (own-length (c .before)) (wide d)
+    let d = c .before .before .before .before .before .before .before .before in
+    let e = d .before .before .before in
+    ready (graph d) (as-long e) (few e) (own-length e) (wide e)
 
-returns-7 : tie.Need-returns-7
+returns-9 : tie.Need-returns-9
 unfolding reply roomAfter start
-returns-7 c =
+returns-9 c =
     let m = c .before .before .before .before in
-    let x = m .before .before .before .before .before .before .before in
+    let x = m .before .before .before .before .before .before .before .before in
     let d = x .before in
+    let e = d .before .before .before in
     let l = linear-done _ _ _ _ _ (graph d) (m .order-members .ensures .0) (m .order-members .ensures .1) in
-    wrote _ _ _ _ (first-none _ _ _ _ (alike d) (few d) (wide d) (ranged d) (sym (graph d .cyclic) ∙ x .if6 .left)) (c .wrote .ensures ∙ ap success (l .0)) (l .1)
+    wrote _ _ _ _ (first-none _ _ _ _ (alike e) (few e) (wide e) (ranged e) (sym (graph d .cyclic) ∙ x .if8 .left)) (c .wrote3 .ensures ∙ ap success (l .0)) (l .1)
 
 pub linearize-spec : {M : Type 1} → statement M
 linearize-spec =
@@ -124,13 +148,17 @@ linearize-spec =
     (λ c κs. search needs)
     returns-5
     (λ c κs. search needs)
-    (λ c κs. search needs)
     returns-6
     (λ c. search needs)
+    (λ c κs. search needs)
     (λ c. search needs)
+    returns-7
+    (λ c κs. search needs)
+    (λ c κs. search needs)
+    returns-8
     (λ c. search needs)
     slice-aggregate
     order-members-requires
     (λ c κs. search needs)
     (λ c. search needs)
-    returns-7)
+    returns-9)

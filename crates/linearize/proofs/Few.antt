@@ -1,0 +1,66 @@
+-- A cluster of one member, or of none, has no cycle and one order. Assumes nothing.
+use Prim.Native.Nat.{ℕ, _≤_, _<_}
+use native.Mathlib.Omega.{arith}
+use mathlib.Core.Path.{_≡_, refl, ap}
+use mathlib.Core.Bool.{Bool, true, false, not}
+use mathlib.Core.List.{List, [], _∷_, _++_}
+use lib.ListN.{length, drop, set}
+use lib.Dec.{eqb, ltb}
+use lib.IntN.{ℤ}
+use borrow.Author.Tests.{eq-eqb, not-true}
+use Rattle.txset.specs.Lists.{anyOf, elem}
+use Rattle.txset.specs.Sets.{mem, setAt}
+use Rattle.txset.proofs.Below.{clash}
+use Rattle.depgraph.specs.Graph.{isParent, Above, parent, further, isCyclic}
+use Rattle.depgraph.proofs.Reach.{and-both, parent-both}
+use Rattle.depgraph.proofs.Theorems.{cyclic-is}
+use Rattle.linearize.specs.Linearize.{linearOrder}
+use Rattle.linearize.proofs.Theorems.{linear-below, linear-length}
+
+-- no member is its own parent
+not-own : (ps : List ℕ) (i p : ℕ) → isParent ps i p ≡ true → p ≡ i → ⊥
+unfolding isParent
+not-own ps i p h e =
+    let parts = and-both _ (mem (setAt ps i) p) h in
+    clash (eq-eqb p i e) (not-true _ (and-both (ltb p (length ps)) (not (eqb p i)) (parts .0) .1))
+
+few-above : (ps : List ℕ) (i a : ℕ) → length ps ≤ 1 → Above ps i a → ⊥
+few-above ps i a h (parent e) = let b = parent-both ps i a e in not-own ps i a e (omega (arith, b .from, b .to))
+few-above ps i a h (further {p = p} e u) = let b = parent-both ps i p e in not-own ps i p e (omega (arith, b .from, b .to))
+
+pub few-acyclic : (ps : List ℕ) → length ps ≤ 1 → isCyclic ps ≡ false
+few-acyclic ps h = go (isCyclic ps) refl
+  where
+    go : (b : Bool) → isCyclic ps ≡ b → isCyclic ps ≡ false
+    go false e = e
+    go true e = let c = cyclic-is ps e in absurd (few-above ps (c .0) (c .0) h (c .2))
+
+-- a list of one element, 0 at most
+one-zero : (l : List ℕ) → length l ≡ 1 → ((i : ℕ) → elem i l ≡ true → i < 1) → l ≡ 0 ∷ []
+unfolding elem anyOf
+one-zero [] e f = absurd (omega arith)
+one-zero (x ∷ []) e f = let z : x ≡ 0 = omega (arith, f x (rw (eq-eqb x x refl))) in ap (λ (y : ℕ). y ∷ []) z
+one-zero (x ∷ y ∷ l) e f = absurd (omega arith)
+
+none-left : (l : List ℕ) → length l ≡ 0 → l ≡ []
+none-left [] e = refl
+none-left (x ∷ l) e = absurd (omega arith)
+
+module _ (fs : List ℤ) (ss ps : List ℕ) (as-long : length ps ≡ length fs) where
+  pub none-order : length fs ≡ 0 → linearOrder fs ss ps ≡ []
+  none-order h =
+      let n = linear-length fs ss ps as-long (few-acyclic ps (omega arith)) in
+      none-left (linearOrder fs ss ps) (omega arith)
+
+  pub alone-order : length fs ≡ 1 → linearOrder fs ss ps ≡ 0 ∷ []
+  alone-order h =
+      let n = linear-length fs ss ps as-long (few-acyclic ps (omega arith)) in
+      one-zero (linearOrder fs ss ps) (omega arith) (λ i m. omega (arith, linear-below fs ss ps i m))
+
+-- the room with such an order at its start
+pub none-room : (o room : List ℕ) → o ≡ [] → room ≡ o ++ drop (length o) room
+none-room o room e = rw e
+
+pub alone-room : (o room : List ℕ) → o ≡ 0 ∷ [] → 1 ≤ length room → set room 0 0 ≡ o ++ drop (length o) room
+alone-room o [] e h = absurd (omega arith)
+alone-room o (x ∷ room) e h = rw e
