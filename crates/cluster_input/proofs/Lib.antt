@@ -5,4 +5,5 @@ pub mod Places
 pub mod Named
 pub mod Reading
 pub mod Lengths
+pub mod Full
 pub mod Theorems

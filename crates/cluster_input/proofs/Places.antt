@@ -9,13 +9,13 @@ use native.Mathlib.Omega.{arith}
 use lib.Dec.{eqb, ltb, leb}
 use lib.ListN.{length, getD, take, drop, drop-of-length-le, length-drop, length-append}
 use lib.Seq.{drop-cons, drop-drop, take-nil}
-use borrow.Author.Tests.{le-leb, lt-leb, lt-ltb, le-ltb, eq-eqb, ne-eqb, ltb-true}
+use borrow.Author.Tests.{le-leb, lt-leb, lt-ltb, le-ltb, eq-eqb, ne-eqb, ltb-true, leb-true}
 use Rattle.feefrac.specs.Rate.{pick}
 use Rattle.txset.proofs.Below.{clash}
 use Rattle.cluster_input.specs.declared.lines.Line.the-variants.{Ends, Malformed}
 use Rattle.cluster_input.specs.declared.lines.Value.the-variants as value
 use Rattle.cluster_input.specs.declared.lines.Span.{Span}
-use Rattle.cluster_input.specs.Lines.{before, behind, isLine, starts, isField, valueOf}
+use Rattle.cluster_input.specs.Lines.{before, behind, isLine, longestLine, starts, isField, valueOf}
 use Rattle.cluster_input.specs.Steps.{placeOf, lineAt, fieldAt, hasEnd}
 use Rattle.cluster_input.proofs.Picks.{first, second, both}
 
@@ -73,6 +73,17 @@ line-inside xs e =
 pub field-inside : (key xs : List ℕ) → isField key xs ≡ true → length (before 10 xs) < length xs
 unfolding isField
 field-inside key xs e = line-inside xs (both (isLine xs) (starts key (before 10 xs)) e .0)
+
+-- it has at most 1,024 bytes before the newline, so little is passed with it
+pub field-short : (key xs : List ℕ) → isField key xs ≡ true → length (before 10 xs) ≤ 1024
+unfolding isField isLine
+field-short key xs e =
+    let l = both (isLine xs) (starts key (before 10 xs)) e .0 in
+    leb-true (length (before 10 xs)) 1024 (both (ltb (length (before 10 xs)) (length xs)) (leb (length (before 10 xs)) 1024) l .1)
+
+pub field-passes : (key xs : List ℕ) → isField key xs ≡ true → length xs ≤ longestLine + length (behind 10 xs)
+unfolding behind
+field-passes key xs e = omega (arith, field-short key xs e, length-drop (suc (length (before 10 xs))) xs)
 
 -- the first line, from the text's start
 pub has-line : (text : List ℕ) → placeOf 10 text 0 < length text → hasEnd text ≡ true

@@ -27,13 +27,13 @@ use Rattle.cluster_input.specs.declared.Member.the-variants as member
 use Rattle.cluster_input.specs.declared.MemberLines.{MemberLines}
 use Rattle.cluster_input.specs.declared.Parents.the-variants as parents
 use Rattle.cluster_input.specs.Numerals.{numberOf, feeOf}
-use Rattle.cluster_input.specs.Lines.{before, behind, isLine, starts, isField, valueOf}
+use Rattle.cluster_input.specs.Lines.{before, behind, isLine, longestLine, starts, isField, valueOf}
 use Rattle.cluster_input.specs.Reading.{nKey, feeKey, sizeKey, parentsKey, isNumber, numberIn, isFee, parts, areNumbers, wordOf}
 use Rattle.cluster_input.specs.Reading.{isMember, memberFee, memberSize, memberParents, nextMember, Read, refused, cluster, members, read}
 use Rattle.cluster_input.specs.Calls.{inputOf, feesAfter, sizesAfter, parentsAfter, Decided, isDecided}
 use Rattle.cluster_input.specs.Steps.{nextLine, hasEnd, firstOf, memberAt, parentsIn}
 use Rattle.cluster_input.proofs.Picks.{first, second, both}
-use Rattle.cluster_input.proofs.Places.{Field, field-inside, place-behind, goes-on, too-long}
+use Rattle.cluster_input.proofs.Places.{Field, field-inside, field-short, place-behind, goes-on, too-long}
 
 -- ---- the first line
 
@@ -298,6 +298,8 @@ module _ (text : List ℕ) where
     pub is : read text ≡ members (l .n) (drop (l .next) text) [] [] []
     pub few : l .n ≤ 64
     pub inside : l .next ≤ length text
+    pub near : l .next ≤ longestLine
+    pub ends : length (before 10 text) < length text
 
   pub read-count : (l : FirstLine) → firstOf text ≡ count.Count l → Counted l
   unfolding read
@@ -313,10 +315,12 @@ module _ (text : List ℕ) where
             (ap (λ (xs : List ℕ). members (l .n) xs [] [] []) (sym (ap (λ (m : ℕ). drop m text) (sym k) ∙ place-behind 10 text 0)));
         few = omega (arith, ltb-false positions (numberIn (numberOf (valueOf nKey text))) (b .0));
         inside = omega (arith, w .ends);
+        near = omega (arith, field-short nKey text (both (isField nKey text) (isNumber (numberOf (valueOf nKey text))) (w .form) .0));
+        ends = w .ends;
       }
 
 -- the first line says the same where the text goes on
-first-goes-on : (start rest : List ℕ) → length (before 10 start) < length start → firstOf (start ++ rest) ≡ firstOf start
+pub first-goes-on : (start rest : List ℕ) → length (before 10 start) < length start → firstOf (start ++ rest) ≡ firstOf start
 unfolding firstOf
 first-goes-on start rest l =
     let s = goes-on nKey start rest l in

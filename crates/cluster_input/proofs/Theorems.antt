@@ -1,14 +1,15 @@
--- For readers: a number of the input, and a fee, has one spelling. No proof of a function cites these. Assumes nothing.
-use mathlib.Core.Path.{_≡_, refl, sym, ap, ap₂, _∙_}
-use mathlib.Core.Bool.{Bool, true, false, not, _&&_, _||_, or-false}
+-- For readers: a number of the input, and a fee, has one spelling; and what a text that is too long is read as shows at its start. No
+-- proof of a function cites these. Assumes nothing.
+use mathlib.Core.Path.{_≡_, refl, sym, ap, ap₂, subst, _∙_}
+use mathlib.Core.Bool.{Bool, true, false, not, _&&_, _||_, or-false, or-true}
 use mathlib.Core.Logic.{_⊎_, inl, inr, ⊎-elim}
-use mathlib.Core.List.{List, [], _∷_}
+use mathlib.Core.List.{List, [], _∷_, _++_}
 use Prim.Native.Nat.{ℕ, _+_, _-_, _*_, _≤_, _<_}
 use native.Mathlib.Omega.{arith}
 use lib.Dec.{eqb, ltb, leb}
 use lib.IntN.{ℤ, pos, negsuc}
-use lib.ListN.{length}
-use borrow.Author.Tests.{leb-true, ltb-true, eqb-true, eqb-false, not-true}
+use lib.ListN.{length, length-append}
+use borrow.Author.Tests.{lt-ltb, leb-true, ltb-true, eqb-true, eqb-false, not-true}
 use Rattle.feefrac.specs.Rate.{pick}
 use Rattle.txset.specs.Lists.{allOf}
 use Rattle.txset.proofs.Below.{clash, lt-or-ge}
@@ -16,7 +17,15 @@ use Rattle.cluster_input.specs.declared.numerals.Number.{Number}
 use Rattle.cluster_input.specs.declared.numerals.Number.the-variants.{Value, Malformed}
 use Rattle.cluster_input.specs.declared.numerals.Fee.the-variants.{Sats}
 use Rattle.cluster_input.specs.Numerals.{isDigit, valueFrom, isPlain, numberOf, negative, positive, feeOf}
+use Rattle.cluster_input.specs.declared.First.{First}
+use Rattle.cluster_input.specs.declared.First.the-variants as count
+use Rattle.cluster_input.specs.Lines.{before, longestText}
+use Rattle.cluster_input.specs.Reading.{read}
+use Rattle.cluster_input.specs.Steps.{hasEnd, firstOf}
+use Rattle.cluster_input.specs.Calls.{Decided}
 use Rattle.cluster_input.proofs.Picks.{first, both}
+use Rattle.cluster_input.proofs.Reading.{read-count, first-goes-on, many-decided, malformed-decided}
+use Rattle.cluster_input.proofs.Full.{count-full}
 
 -- a digit, and digits behind it
 record Digits (d : ℕ) (ds : List ℕ) : Type 0 where
@@ -152,3 +161,18 @@ fee-unique ds es z p q =
     no-minus a b =
         let s : b .size ≡ a .size = cc (a .gives, b .gives) in
         number-unique ds es (a .size) (a .read) (b .read ∙ ap Value s)
+
+-- "each line ended by a newline and at most 1,024 bytes before it": a start that is longer than all lines of the largest cluster decides,
+-- so what stands behind it need not be read
+pub full-decides : (start rest : List ℕ) → longestText < length start → read (start ++ rest) ≡ read start
+full-decides start rest l = go (firstOf start) refl
+  where
+    certain : hasEnd start ≡ true
+    certain = rw (lt-ltb 1024 (length start) (omega arith)) (or-true (ltb (length (before 10 start)) (length start)))
+
+    go : (f : First) → firstOf start ≡ f → read (start ++ rest) ≡ read start
+    go (count.Count c) h =
+        let goes = first-goes-on start rest (read-count start c h .ends) ∙ h in
+        count-full (start ++ rest) c goes (omega (arith, length-append start rest)) ∙ sym (count-full start c h l)
+    go count.TooMany h = many-decided start h rest
+    go count.Malformed h = subst (Decided start) certain (malformed-decided start h) rest

@@ -1,10 +1,11 @@
 -- Document 01, "The cluster program": its lines. Assumes nothing.
-use Prim.Native.Nat.{ℕ, suc}
+use Prim.Native.Nat.{ℕ, suc, _+_, _*_}
 use mathlib.Core.Bool.{Bool, true, false, _&&_}
 use mathlib.Core.List.{List, [], _∷_}
 use lib.ListN.{length, drop}
 use lib.Dec.{eqb, ltb, leb}
 use Rattle.feefrac.specs.Rate.{pick}
+use Rattle.txset.specs.Sets.{positions}
 
 -- what stands before the first byte b, and behind it
 unfoldable pub before : ℕ → List ℕ → List ℕ
@@ -17,6 +18,14 @@ behind b xs = drop (suc (length (before b xs))) xs
 -- "each line ended by a newline and at most 1,024 bytes before it"
 unfoldable pub isLine : List ℕ → Bool
 isLine xs = ltb (length (before 10 xs)) (length xs) && leb (length (before 10 xs)) 1024
+
+-- "each line ended by a newline and at most 1,024 bytes before it": so many bytes a line has at most, with its newline
+abbrev pub longestLine : ℕ
+longestLine = 1025
+
+-- and so many the lines of the largest cluster: that of n, and three for each of its members
+abbrev pub longestText : ℕ
+longestText = longestLine + positions * (3 * longestLine)
 
 -- whether the list starts with the key
 unfoldable pub starts : List ℕ → List ℕ → Bool

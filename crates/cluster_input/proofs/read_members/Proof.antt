@@ -31,37 +31,8 @@ returns c =
     let e = sym (r .read-member .ensures) ∙ c .enum-told .given .1 in
     refused-left (stop (d .loop .inv) (r .before .loop-test .taken) (member-malformed (d .before .before .args .text .now) (d .loop .at) e))
 
-loop-again : tie.Need-loop-again Inv-loop μ-loop
-unfolding putAt
-loop-again c =
-    let p = c .before .before .before .before .before in
-    let m = p .before .before .before .before .before in
-    let r = m .before .before in
-    let d = r .before .before in
-    let e = sym (r .read-member .ensures) ∙ m .m .given .1 in
-    let h : SFits w64 (m .m .given .0 .0 .fee) = sfits-of (p .before .before .before .struct-told .given .0 .1) in
-    turn (d .loop .inv) (r .before .loop-test .taken) (d .before .before .pre .1) (m .m .given .0 .0)
-    (member-lines (d .before .before .args .text .now) (d .loop .at) (m .m .given .0 .0) e)
-    (p .put .ensures .0 ∙ ap (set (d .loop .new-fees) (d .loop .i)) (toZ-ofZ h))
-    (p .put .ensures .1)
-    (c .before .put2 .ensures)
-
-returns-2 : tie.Need-returns-2 Inv-loop μ-loop
-returns-2 c =
-    let d = c .before in
-    refused-left (tail (d .before .loop .inv) (d .loop-test .left) (omega (arith, d .before .loop .inv .within)))
-
-returns-3 : tie.Need-returns-3 Inv-loop μ-loop
-returns-3 c =
-    let s = c .before .before .before .before .before .before .before .before .before .before .before .before in
-    let d = c .before .before .before .before .before .before .before .before .before in
-    let rates = c .before .before .before in
-    cluster-left (s .args .fees .now) (s .args .sizes .now) (s .args .parents .now) (s .args .n)
-    (done (d .before .loop .inv) (d .loop-test .left) (omega (arith, c .before .before .before .before .before .before .before .before .if1 .left)))
-    (length-take-le (s .args .n) (d .before .loop .new-fees) (omega (arith, s .pre .1, d .before .loop .inv .fees)))
-    (rates .copy-rates .ensures .0) (rates .copy-rates .ensures .1) (c .copy-sets .ensures)
-
 pub read-members-spec : {M : Type 1} → statement M
+unfolding putAt
 read-members-spec =
     tie.close
     (tie.spec
@@ -79,8 +50,28 @@ read-members-spec =
     (λ c κs. search needs)
     (λ c. search needs)
     (λ c. search needs)
-    loop-again
-    returns-2
+    (λ c.
+    let p = c .before .before .before .before .before in
+    let m = p .before .before .before .before .before in
+    let r = m .before .before in
+    let d = r .before .before in
+    let e = sym (r .read-member .ensures) ∙ m .m .given .1 in
+    let h : SFits w64 (m .m .given .0 .0 .fee) = sfits-of (p .before .before .before .struct-told .given .0 .1) in
+    turn (d .loop .inv) (r .before .loop-test .taken) (d .before .before .pre .1) (m .m .given .0 .0)
+    (member-lines (d .before .before .args .text .now) (d .loop .at) (m .m .given .0 .0) e)
+    (p .put .ensures .0 ∙ ap (set (d .loop .new-fees) (d .loop .i)) (toZ-ofZ h))
+    (p .put .ensures .1)
+    (c .before .put2 .ensures))
+    (λ c.
+    let d = c .before in
+    refused-left (tail (d .before .loop .inv) (d .loop-test .left) (omega (arith, d .before .loop .inv .within))))
     (λ c κs. search needs)
     (λ c κs. search needs)
-    returns-3)
+    (λ c.
+    let s = c .before .before .before .before .before .before .before .before .before .before .before .before in
+    let d = c .before .before .before .before .before .before .before .before .before in
+    let rates = c .before .before .before in
+    cluster-left (s .args .fees .now) (s .args .sizes .now) (s .args .parents .now) (s .args .n)
+    (done (d .before .loop .inv) (d .loop-test .left) (omega (arith, c .before .before .before .before .before .before .before .before .if1 .left)))
+    (length-take-le (s .args .n) (d .before .loop .new-fees) (omega (arith, s .pre .1, d .before .loop .inv .fees)))
+    (rates .copy-rates .ensures .0) (rates .copy-rates .ensures .1) (c .copy-sets .ensures)))

@@ -3,9 +3,9 @@ use mathlib.Core.Path.{_≡_, sym}
 use lib.ListN.{length}
 use lib.Seq.{length-take-le}
 use borrow.Author.Needs.{needs}
-use Rattle.cluster.proofs.Bounds.{bytes-within}
-use Rattle.cluster.proofs.read_input.Statement.{statement}
-use Rattle.cluster.proofs.read_input.Tie as tie
+use Rattle.cluster_run.proofs.Bounds.{bytes-within}
+use Rattle.cluster_run.proofs.read_input.Statement.{statement}
+use Rattle.cluster_run.proofs.read_input.Tie as tie
 
 abbrev Inv-loop : tie.InvT-loop
 Inv-loop text₀ len₀ text len = (len ≤ length text) × (length text ≡ length text₀)

@@ -4,9 +4,9 @@ use mathlib.Core.Path.{sym, ap}
 use lib.ListN.{length, length-append}
 use lib.Seq.{length-take-le}
 use borrow.Author.Needs.{needs}
-use Rattle.cluster.proofs.Bounds.{bytes-within}
-use Rattle.cluster.proofs.main.Statement.{statement}
-use Rattle.cluster.proofs.main.Tie as tie
+use Rattle.cluster_run.proofs.Bounds.{bytes-within}
+use Rattle.cluster_run.proofs.run.Statement.{statement}
+use Rattle.cluster_run.proofs.run.Tie as tie
 
 -- what was read lies within its room, and what is printed within its own
 text-within : (c : tie.After-len) → c .len .given .0 .0 ≤ length (c .before .before .before .read-input .last .0)
@@ -15,8 +15,8 @@ text-within c = omega (arith, bytes-within 0 _ (c .before .before .before .read-
 out-within : (c : tie.After-respond) → c .respond .result ≤ length (c .respond .last .1 .0)
 out-within c = omega (arith, c .respond .ensures .0, simp length-append at (ap length (c .respond .ensures .1)))
 
-pub main-spec : {M : Type 1} → statement M
-main-spec =
+pub run-spec : {M : Type 1} → statement M
+run-spec =
     tie.close
     (tie.spec
     (λ c κs. search needs)
