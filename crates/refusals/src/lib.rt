@@ -21,6 +21,7 @@ pub const NOT_AN_ORDER: u64 = 5;
 pub const ROOM_TOO_SHORT: u64 = 11;
 
 // 0 and the number of places written from the room's start, or the refusal's number and 0.
+#[repr(C)]
 pub struct Reply {
     pub answer: u64,
     pub written: usize,
