@@ -1,7 +1,8 @@
 // The cluster program of document 01: reads a cluster from standard input and prints its order and chunks.
 ghost use mathlib.Core.Path.{_≡_};
-ghost use Prim.Native.Nat.{_≤_};
+ghost use Prim.Native.Nat.{_≤_, _<_};
 ghost use lib.ListN.{length};
+ghost use Rattle.cluster_input.specs.Lines.{longestText};
 ghost use Rattle.cluster_run.specs.Bounds.{Within};
 use libc::STDIN_FILENO;
 use libc::STDOUT_FILENO;
@@ -23,10 +24,11 @@ pub fn run() {
     io::write_all(STDOUT_FILENO, &out[..n]);
 }
 
-// One byte more than `longestText` of cluster_input's specs: where the room is full, nothing behind it changes the response
-// (`full-responds` of cluster_text's proofs).
+// More than the longest text of the right form has: where the room is full, nothing behind it changes the response (`full-responds` of
+// cluster_text's proofs).
 fn room() -> [u8; 197_826]
     ensures { λ r. ⌜ 197826 ≡ length r ⌝ }
+    ensures { λ r. ⌜ longestText < length r ⌝ }
 {
     [0; 197_826]
 }
