@@ -1,7 +1,6 @@
 pub mod Ancestors
 pub mod Changes
 pub mod Sums
-pub mod Turned
 pub mod Append
 pub mod Rounds
 pub mod Kept

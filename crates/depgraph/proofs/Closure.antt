@@ -2,7 +2,6 @@
 -- Assumes nothing.
 use mathlib.Core.Path.{_≡_, refl, sym, ap, ap₂, _∙_}
 use mathlib.Core.Bool.{Bool, true, false, not, _&&_, _||_, and-true, and-false, and-comm, or-false, or-assoc, or-comm}
-use mathlib.Core.Logic.{⊎-elim}
 use mathlib.Core.List.{List}
 use Prim.Native.Nat.{ℕ, suc, _+_, _≤_, _<_}
 use native.Mathlib.Numerals.{add-one}
@@ -13,27 +12,16 @@ use lib.Seq.{take-length, take-all, length-take-le, getD-take}
 use borrow.Author.Tests.{lt-ltb, le-ltb, eq-eqb, ne-eqb, eqb-true}
 use Rattle.txset.specs.declared.TxSet.{TxSet}
 use Rattle.txset.specs.Below.{anyFrom}
-use Rattle.txset.specs.Sets.{positions, isPosition, mem, setAt, putAt}
-use Rattle.txset.proofs.Below.{lt-or-ge}
-use Rattle.txset.proofs.Sets.{mem-position, length-put}
+use Rattle.txset.specs.Sets.{positions, isPosition, mem, setAt, putAt, Joined}
+use Rattle.txset.proofs.Below.{by-position, below-here, below-else}
+use Rattle.txset.proofs.Sets.{mem-position, length-put, put-at, put-else, at-zeros}
+use Rattle.txset.proofs.Joins.{joined-at, turned-more}
 use Rattle.depgraph.specs.declared.DepGraph.{DepGraph}
 use Rattle.depgraph.specs.Closed.{Closed}
 use Rattle.depgraph.specs.Graph.{isParent, reach, isAbove, isAncestor, isCyclic}
 use Rattle.depgraph.specs.Steps.{Holds, nothing}
-use Rattle.depgraph.proofs.Joins.{by-position, at-zeros, Joined, joined-at, put-at, put-else}
 use Rattle.depgraph.proofs.Counts.{any-more}
 use Rattle.depgraph.proofs.Reach.{asked, parent-asked, above-both}
-
--- below i + 1: i, and what is below i
-below-here : (i : ℕ) → ltb i (i + 1) ≡ true
-below-here i = lt-ltb i (i + 1) (omega arith)
-
-below-else : (j i : ℕ) → (i ≡ j → ⊥) → ltb j (i + 1) ≡ ltb j i
-below-else j i n =
-    ⊎-elim
-    (λ l. lt-ltb j (i + 1) (omega arith) ∙ sym (lt-ltb j i l))
-    (λ l. le-ltb j (i + 1) (⊎-elim (λ m. absurd (n (omega arith))) (λ m. m) (lt-or-ge j (i + 1))) ∙ sym (le-ltb j i l))
-    (lt-or-ge j i)
 
 eqb-sym : (a b : ℕ) → eqb a b ≡ eqb b a
 eqb-sym a b =
@@ -88,13 +76,7 @@ link-turn f i own single {up} {down} {up'} {down'} l has-own has-i put join h =
           (put-at up i own (omega (arith, h .ups)) a ∙ has-own a ∙ ap (λ (b : Bool). b && f i a) (sym (below-here i)))
           (λ j n. put-else up i own j a n ∙ h .above j a ∙ ap (λ (b : Bool). b && f j a) (sym (below-else j i n)))
           j;
-      below = λ j a.
-          joined-at (h .downs) join a j
-          ∙ ap₂ _||_ (h .below j a) (ap₂ _&&_ (has-own a) (has-i j))
-          ∙ by-position (λ j. (upTo i f j a || (f i a && (isPosition j && eqb j i))) ≡ upTo (i + 1) f j a) i
-          (rw (le-ltb i i (omega arith), lt-ltb i positions l, eq-eqb i i refl, below-here i) (and-true (f i a)))
-          (λ j n. rw (ne-eqb j i (λ e. n (sym e)), and-false (isPosition j), and-false (f i a), below-else j i n) (or-false (upTo i f j a)))
-          j;
+      below = λ j a. turned-more f i own single l (omega (arith, h .downs)) has-own has-i join (λ a j. h .below j a) a j;
     })
 
 pub link-done : (ps : List ℕ) {up down : List ℕ} {i : ℕ} → length ps ≡ i → Holds (upTo i (isParent ps)) up down → Holds (isParent ps) up down
@@ -139,9 +121,9 @@ by-way ps k over under {up} {down} at-up at-down join-up join-down h =
     record {
       ups = join-up .same ∙ h .ups;
       downs = join-down .same ∙ h .downs;
-      above = λ i a. joined-at (h .ups) join-up i a ∙ ap₂ _||_ (h .above i a) (ap₂ _&&_ (has-under i) (has-over a));
+      above = λ i a. joined-at (omega (arith, h .ups)) join-up i a ∙ ap₂ _||_ (h .above i a) (ap₂ _&&_ (has-under i) (has-over a));
       below = λ i a.
-          joined-at (h .downs) join-down a i
+          joined-at (omega (arith, h .downs)) join-down a i
           ∙ ap₂ _||_ (h .below i a) (ap₂ _&&_ (has-over a) (has-under i) ∙ and-comm (reach ps k k a) (reach ps k i k));
     }
 

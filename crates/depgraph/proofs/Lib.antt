@@ -1,4 +1,3 @@
-pub mod Joins
 pub mod Counts
 pub mod Reach
 pub mod Closure

@@ -9,8 +9,8 @@ use lib.ListN.{length}
 use borrow.Author.Tests.{lt-ltb, ltb-true}
 use Rattle.txset.specs.Sets.{mem, setAt}
 use Rattle.txset.proofs.Below.{clash, lt-or-ge}
+use Rattle.txset.proofs.Sets.{at-past}
 use Rattle.depgraph.specs.Graph.{isParent, reach, isAbove}
-use Rattle.depgraph.proofs.Joins.{at-past}
 
 -- a true conjunction has both parts, a true disjunction one of them
 pub and-both : (b c : Bool) → (b && c) ≡ true → (b ≡ true) × (c ≡ true)

@@ -1,10 +1,9 @@
 // Module 3 of document 01: the closure of a cluster's parent links.
 ghost use mathlib.Core.Path.{_≡_};
-ghost use mathlib.Core.Bool.{Bool, _&&_, _||_};
-ghost use Prim.Native.Nat.{ℕ, _≤_, _<_};
+ghost use Prim.Native.Nat.{ℕ, _≤_};
 ghost use lib.ListN.{length, take};
 ghost use mathlib.Core.List.{List};
-ghost use Rattle.txset.specs.Sets.{positions, mem, setAt};
+ghost use Rattle.txset.specs.Sets.{positions};
 ghost use Rattle.depgraph.specs.Graph.{isParent, isAbove, isAncestor, isCyclic};
 ghost use Rattle.depgraph.specs.Closed.{Closed};
 ghost use Rattle.depgraph.specs.Steps.{Holds, nothing};
@@ -40,18 +39,6 @@ impl DepGraph {
     }
 }
 
-// Adds the members of `extra` to the i-th set for each i in `walk`.
-fn join(sets: &mut [u64], walk: TxSet, extra: TxSet)
-    ensures { λ _. ⌜ ((i a : ℕ) → i < length (now (sets .entry)) → mem (setAt (now (sets .exit)) i) a ≡ (mem (setAt (now (sets .entry)) i) a || (mem walk i && mem extra a))) ⌝ }
-{
-    let mut rest = walk;
-    while !rest.is_empty() {
-        let i = rest.lowest();
-        rest = rest.without_lowest();
-        TxSet::at(sets, i).union(extra).put(sets, i);
-    }
-}
-
 // Enters each member's parents, and the member with each of them.
 fn link(parents: &[u64], n: usize, ancestors: &mut [u64], descendants: &mut [u64])
     requires { ⌜ n ≤ length (now parents) ⌝ }
@@ -64,7 +51,7 @@ fn link(parents: &[u64], n: usize, ancestors: &mut [u64], descendants: &mut [u64
     while i < n {
         let own = TxSet::at(parents, i).intersection(all).remove(i);
         own.put(ancestors, i);
-        join(descendants, own, TxSet::singleton(i));
+        TxSet::singleton(i).join(descendants, own);
         i += 1;
     }
 }
@@ -79,8 +66,8 @@ fn close(n: usize, ancestors: &mut [u64], descendants: &mut [u64])
     while k < n {
         let above = TxSet::at(ancestors, k);
         let below = TxSet::at(descendants, k);
-        join(ancestors, below, above);
-        join(descendants, above, below);
+        above.join(ancestors, below);
+        below.join(descendants, above);
         k += 1;
     }
 }

@@ -9,7 +9,7 @@ use native.Mathlib.Nat.{add-zero, zero-add, suc-add, add-suc, eq-or-lt-of-le, le
 use native.Mathlib.Omega.{arith}
 use lib.Dec.{T, eqb, ltb, leb}
 use lib.ListN.{length, length-append, length-map}
-use borrow.Author.Tests.{lt-ltb, le-ltb, ltb-true, ltb-false, eq-eqb, ne-eqb, le-leb, not-true, not-false}
+use borrow.Author.Tests.{lt-ltb, le-ltb, ltb-true, ltb-false, eq-eqb, ne-eqb, eqb-true, eqb-false, le-leb, not-true, not-false}
 use Rattle.txset.specs.Lists.{anyOf, elem}
 use Rattle.txset.specs.Below.{pickℕ, keepIf, bit, anyFrom, allFrom, countFrom, firstFrom, listFrom}
 
@@ -22,6 +22,25 @@ pub lt-or-ge : (a b : ℕ) → (a < b) ⊎ (b ≤ a)
 lt-or-ge a zero = inr zero-le
 lt-or-ge zero (suc b) = inl (suc-le-suc zero-le)
 lt-or-ge (suc a) (suc b) = ⊎-elim (λ p. inl (suc-le-suc p)) (λ q. inr (suc-le-suc q)) (lt-or-ge a b)
+
+-- what holds at i and at every other position holds at each
+pub by-position : (P : ℕ → Type 0) (i : ℕ) → P i → ((j : ℕ) → (i ≡ j → ⊥) → P j) → (j : ℕ) → P j
+by-position P i p q j = go (eqb i j) refl
+  where
+    go : (b : Bool) → eqb i j ≡ b → P j
+    go true e = let z : i ≡ j = eqb-true i j e in rw z at p
+    go false e = q j (eqb-false i j e)
+
+-- below i + 1: i, and what is below i
+pub below-here : (i : ℕ) → ltb i (i + 1) ≡ true
+below-here i = lt-ltb i (i + 1) (omega arith)
+
+pub below-else : (j i : ℕ) → (i ≡ j → ⊥) → ltb j (i + 1) ≡ ltb j i
+below-else j i n =
+    ⊎-elim
+    (λ l. lt-ltb j (i + 1) (omega arith) ∙ sym (lt-ltb j i l))
+    (λ l. le-ltb j (i + 1) (⊎-elim (λ m. absurd (n (omega arith))) (λ m. m) (lt-or-ge j (i + 1))) ∙ sym (le-ltb j i l))
+    (lt-or-ge j i)
 
 -- whether a list has an element
 abbrev pub some : List ℕ → Bool

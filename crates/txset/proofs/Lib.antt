@@ -3,6 +3,7 @@ pub mod Bits
 pub mod Words
 pub mod Sets
 pub mod Walk
+pub mod Joins
 pub mod Lists
 pub mod Ranges
 pub mod Bools

@@ -5,7 +5,7 @@ use mathlib.Core.Logic.{_≢_, ⊎-elim}
 use mathlib.Core.List.{List}
 use Prim.Native.Nat.{ℕ, zero, suc, _^_, _≤_, _<_}
 use lib.Dec.{lit<}
-use lib.ListN.{length, length-set}
+use lib.ListN.{length, getD, replicate, length-set, length-replicate, getD-replicate, List·getD-eq-default}
 use lib.Seq.{getD-set-same, getD-set-other}
 use native.Mathlib.Omega.{arith}
 use borrow.Author.Tests.{lt-ltb, not-true}
@@ -15,7 +15,7 @@ use Rattle.txset.specs.Below.{anyFrom}
 use Rattle.txset.specs.Sets.{words, positions, isPosition, mem, members, size, isEmpty, isSubset, overlap, setAt, putAt}
 use Rattle.txset.proofs.Below.{clash, lt-or-ge, but-not, all-any, any-ext, none-at, at-none, all-at, at-all, list-ext, count-list}
 use Rattle.txset.proofs.Below.{elem-in, elem-out, ascending, list-ascending}
-use Rattle.txset.proofs.Words.{Fits, hasIn-past}
+use Rattle.txset.proofs.Words.{Fits, hasIn-past, hasIn-zeros}
 
 -- a set's words are those of a machine
 pub words-fit : (s : TxSet) → s .word < 2 ^ 64 → Fits (words s)
@@ -133,3 +133,26 @@ put-other ws i j s n = ap {B = TxSet} (λ (w : ℕ). record { word = w }) (getD-
 pub length-put : (ws : List ℕ) (i : ℕ) (s : TxSet) → length (putAt ws i s) ≡ length ws
 unfolding putAt
 length-put ws i s = length-set ws i (s .word)
+
+-- membership after a set was put: at i, and elsewhere
+module _ (ws : List ℕ) (i : ℕ) (s : TxSet) where
+  pub put-at : i < length ws → (a : ℕ) → mem (setAt (putAt ws i s) i) a ≡ mem s a
+  put-at h a = ap (λ (t : TxSet). mem t a) (put-same ws i s h)
+
+  pub put-else : (j a : ℕ) → (i ≡ j → ⊥) → mem (setAt (putAt ws i s) j) a ≡ mem (setAt ws j) a
+  put-else j a n = ap (λ (t : TxSet). mem t a) (put-other ws i j s n)
+
+-- where a list of words has a zero there is an empty set: past its end, and everywhere in a list of zeros
+at-zero : (ws : List ℕ) (i a : ℕ) → getD ws i 0 ≡ 0 → mem (setAt ws i) a ≡ false
+unfolding setAt mem
+at-zero ws i a e = ap (λ (w : ℕ). mem (record { word = w }) a) e ∙ hasIn-zeros 1 a
+
+pub at-past : (ws : List ℕ) (i a : ℕ) → length ws ≤ i → mem (setAt ws i) a ≡ false
+at-past ws i a h = at-zero ws i a (List·getD-eq-default ws 0 h)
+
+pub at-zeros : (k i a : ℕ) → mem (setAt (replicate k 0) i) a ≡ false
+at-zeros k i a =
+    ⊎-elim
+    (λ l. at-zero (replicate k 0) i a (getD-replicate k i 0 0 l))
+    (λ l. at-past (replicate k 0) i a (rw length-replicate l))
+    (lt-or-ge i k)

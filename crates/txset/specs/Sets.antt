@@ -1,11 +1,12 @@
 -- Document 01, module 2 (TxSet): a set of positions 0..63, by its members alone.
 -- Membership is defined over any number of words. How many a TxSet has is said in `words` and `positions`, and nowhere else.
 -- Assumes nothing.
-use Prim.Native.Nat.{ℕ, _*_, _/_, _%_, _^_}
+use Prim.Native.Nat.{ℕ, _*_, _/_, _%_, _^_, _<_}
+use mathlib.Core.Path.{_≡_}
 use mathlib.Core.Bool.{Bool, _&&_, _||_, not}
 use mathlib.Core.List.{List, [], _∷_}
 use lib.Dec.{eqb, ltb}
-use lib.ListN.{getD, set}
+use lib.ListN.{length, getD, set}
 use Rattle.txset.specs.declared.TxSet.{TxSet}
 use Rattle.txset.specs.Below.{anyFrom, allFrom, countFrom, firstFrom, listFrom}
 
@@ -64,3 +65,8 @@ setAt ws i = record { word = getD ws i 0 }
 -- the list with its i-th set put anew; past the end, the same list
 unfoldable pub putAt : List ℕ → ℕ → TxSet → List ℕ
 putAt ws i s = set ws i (s .word)
+
+-- the sets `new` are those of the list `old`, with the members of `extra` added to the i-th for each i in `walk`
+pub record Joined (walk extra : TxSet) (old new : List ℕ) : Type 0 where
+  pub same : length new ≡ length old
+  pub has : (i a : ℕ) → i < length old → mem (setAt new i) a ≡ (mem (setAt old i) a || (mem walk i && mem extra a))

@@ -4,7 +4,7 @@ ghost use mathlib.Core.Path.{_≡_};
 ghost use mathlib.Core.Bool.{Bool, true, false, not, _&&_, _||_};
 ghost use Prim.Native.Nat.{ℕ};
 ghost use lib.Dec.{eqb, ltb};
-ghost use Rattle.txset.specs.Sets.{mem, isPosition, size, isEmpty, isSubset, overlap, lowestOf, setAt, putAt};
+ghost use Rattle.txset.specs.Sets.{mem, isPosition, size, isEmpty, isSubset, overlap, lowestOf, setAt, putAt, Joined};
 
 // How many positions a set can hold.
 pub const POSITIONS: usize = 64;
@@ -145,6 +145,19 @@ impl TxSet {
     {
         if i < sets.len() {
             sets[i] = self.word;
+        }
+    }
+
+    // Adds the set's members to the i-th of a list of sets for each i in `walk`; past the list's end, nothing.
+    pub fn join(self, sets: &mut [u64], walk: TxSet)
+        ensures { λ _. ⌜ Joined walk self (now (sets .entry)) (now (sets .exit)) ⌝ }
+    {
+        let mut rest = walk;
+        while !rest.is_empty() {
+            let i = rest.lowest();
+            rest = rest.without_lowest();
+            let held = TxSet::at(sets, i);
+            held.union(self).put(sets, i);
         }
     }
 }

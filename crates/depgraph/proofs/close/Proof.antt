@@ -28,8 +28,8 @@ loop-again c =
           (at-down .at2 .result)
           (at-up .at .ensures)
           (at-down .at2 .ensures)
-          (record { same = join-up .join .kept .0; has = join-up .join .ensures })
-          (record { same = join-down .join2 .kept .0; has = join-down .join2 .ensures })
+          (join-up .join .ensures)
+          (join-down .join2 .ensures)
           (head .loop .inv .1),
     )
 

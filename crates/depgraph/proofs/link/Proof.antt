@@ -35,7 +35,7 @@ loop-again c =
           (isParent (take n parents))
           (head .loop .i)
           (own .remove .result)
-          (join .before .singleton .result)
+          (join .before .before .singleton .result)
           (omega (arith, turn .loop-test .taken, start .pre .1 .0))
           (own-parents
           parents
@@ -50,9 +50,9 @@ loop-again c =
           (head .before .full .ensures)
           (own .before .intersection .ensures)
           (own .remove .ensures))
-          (join .before .singleton .ensures)
+          (join .before .before .singleton .ensures)
           (put .put .ensures)
-          (record { same = join .join .kept .0; has = join .join .ensures })
+          (join .join .ensures)
           (head .loop .inv .1),
     )
 

@@ -1,55 +1,18 @@
--- What `join` does to a list of sets: for each i of a set `walk` the i-th gains the members of a set `extra`. Assumes nothing.
+-- What `TxSet::join` does to a list of sets: for each i of a set `walk` the i-th gains the members of a set `extra`. Assumes nothing.
 use mathlib.Core.Path.{_≡_, refl, sym, ap, ap₂, _∙_}
 use mathlib.Core.Bool.{Bool, true, false, not, _&&_, _||_, and-true, and-false, or-false}
 use mathlib.Core.Logic.{⊎-elim}
 use mathlib.Core.List.{List}
-use Prim.Native.Nat.{ℕ, _≤_, _<_}
+use Prim.Native.Nat.{ℕ, _+_, _≤_, _<_}
 use native.Mathlib.Omega.{arith}
-use lib.Dec.{eqb}
-use lib.ListN.{length, getD, replicate, length-replicate, getD-replicate, List·getD-eq-default}
-use borrow.Author.Tests.{eq-eqb, ne-eqb, eqb-true, eqb-false}
+use lib.Dec.{eqb, ltb}
+use lib.ListN.{length}
+use borrow.Author.Tests.{lt-ltb, le-ltb, eq-eqb, ne-eqb}
 use Rattle.txset.specs.declared.TxSet.{TxSet}
-use Rattle.txset.specs.Sets.{positions, mem, isEmpty, lowestOf, setAt, putAt}
-use Rattle.txset.proofs.Below.{lt-or-ge}
-use Rattle.txset.proofs.Words.{hasIn-zeros}
-use Rattle.txset.proofs.Sets.{mem-past, empty-mem, put-same, put-other, length-put}
+use Rattle.txset.specs.Sets.{positions, isPosition, mem, isEmpty, lowestOf, setAt, putAt, Joined}
+use Rattle.txset.proofs.Below.{lt-or-ge, by-position, below-here, below-else}
+use Rattle.txset.proofs.Sets.{mem-past, empty-mem, length-put, put-at, put-else, at-past}
 use Rattle.txset.proofs.Walk.{lowest-mem}
-
--- what holds at i and at every other position holds at each
-pub by-position : (P : ℕ → Type 0) (i : ℕ) → P i → ((j : ℕ) → (i ≡ j → ⊥) → P j) → (j : ℕ) → P j
-by-position P i p q j = go (eqb i j) refl
-  where
-    go : (b : Bool) → eqb i j ≡ b → P j
-    go true e = let z : i ≡ j = eqb-true i j e in rw z at p
-    go false e = q j (eqb-false i j e)
-
--- where a list of words has a zero there is an empty set: past its end, and everywhere in a list of zeros
-at-zero : (ws : List ℕ) (i a : ℕ) → getD ws i 0 ≡ 0 → mem (setAt ws i) a ≡ false
-unfolding setAt mem
-at-zero ws i a e = ap (λ (w : ℕ). mem (record { word = w }) a) e ∙ hasIn-zeros 1 a
-
-pub at-past : (ws : List ℕ) (i a : ℕ) → length ws ≤ i → mem (setAt ws i) a ≡ false
-at-past ws i a h = at-zero ws i a (List·getD-eq-default ws 0 h)
-
-pub at-zeros : (k i a : ℕ) → mem (setAt (replicate k 0) i) a ≡ false
-at-zeros k i a =
-    ⊎-elim
-    (λ l. at-zero (replicate k 0) i a (getD-replicate k i 0 0 l))
-    (λ l. at-past (replicate k 0) i a (rw length-replicate l))
-    (lt-or-ge i k)
-
--- membership after the i-th set was put anew, by position: at i, and elsewhere
-module _ (ws : List ℕ) (i : ℕ) (s : TxSet) where
-  pub put-at : i < length ws → (a : ℕ) → mem (setAt (putAt ws i s) i) a ≡ mem s a
-  put-at h a = ap (λ (t : TxSet). mem t a) (put-same ws i s h)
-
-  pub put-else : (j a : ℕ) → (i ≡ j → ⊥) → mem (setAt (putAt ws i s) j) a ≡ mem (setAt ws j) a
-  put-else j a n = ap (λ (t : TxSet). mem t a) (put-other ws i j s n)
-
--- the sets `new` are those of `old`, with the members of `extra` added for each i in `walk`
-pub record Joined (walk extra : TxSet) (old new : List ℕ) : Type 0 where
-  pub same : length new ≡ length old
-  pub has : (i a : ℕ) → i < length old → mem (setAt new i) a ≡ (mem (setAt old i) a || (mem walk i && mem extra a))
 
 -- while `rest` is left of the walk: the sets with what is yet to come are those that come out
 pub record Joining (walk extra : TxSet) (old new : List ℕ) (rest : TxSet) : Type 0 where
@@ -57,9 +20,11 @@ pub record Joining (walk extra : TxSet) (old new : List ℕ) (rest : TxSet) : Ty
   pub has : (i a : ℕ) → i < length old
       → (mem (setAt new i) a || (mem rest i && mem extra a)) ≡ (mem (setAt old i) a || (mem walk i && mem extra a))
 
+-- all of the walk is left
 pub join-start : (walk extra : TxSet) (old : List ℕ) → Joining walk extra old old walk
 join-start walk extra old = record { same = refl; has = λ i a l. refl }
 
+-- what is gained now need not come later
 gained : (x e : Bool) → (x || e || (false && e)) ≡ (x || (true && e))
 gained true e = refl
 gained false e = or-false e
@@ -109,6 +74,7 @@ join-turn {walk} {extra} {old} {new} {rest} {next} {s} {p} {new'} u left lowest 
       has = λ i a l. turn-by extra new rest next u p at-p next-p has-u a i (omega (arith, j .same)) ∙ j .has i a l;
     })
 
+-- none is left
 pub join-done : {walk extra : TxSet} {old new : List ℕ} {rest : TxSet} → isEmpty rest ≡ true
     → Joining walk extra old new rest → Joined walk extra old new
 join-done {walk} {extra} {old} {new} {rest} e j =
@@ -120,8 +86,8 @@ join-done {walk} {extra} {old} {new} {rest} e j =
           ∙ j .has i a l;
     }
 
--- a full list has a set for each position, so there the join is one at every i
-pub joined-at : {walk extra : TxSet} {old new : List ℕ} → length old ≡ positions → Joined walk extra old new
+-- a list with a set for each position has one for each of the walk, so there the join is one at every i
+pub joined-at : {walk extra : TxSet} {old new : List ℕ} → positions ≤ length old → Joined walk extra old new
     → (i a : ℕ) → mem (setAt new i) a ≡ (mem (setAt old i) a || (mem walk i && mem extra a))
 joined-at {walk} {extra} {old} {new} n j i a =
     ⊎-elim
@@ -130,3 +96,22 @@ joined-at {walk} {extra} {old} {new} n j i a =
     at-past new i a (omega (arith, j .same))
     ∙ sym (ap₂ (λ (b c : Bool). b || (c && mem extra a)) (at-past old i a l) (mem-past walk i (omega arith))))
     (lt-or-ge i (length old))
+
+-- ---- a relation f turned around: j is entered in the a-th set where f j a, one j after the other
+
+-- before the first, none is
+pub turned-none : (f : ℕ → ℕ → Bool) (ws : List ℕ) → ((a j : ℕ) → mem (setAt ws a) j ≡ false)
+    → (a j : ℕ) → mem (setAt ws a) j ≡ (ltb j 0 && f j a)
+turned-none f ws h a j = h a j ∙ ap (λ (b : Bool). b && f j a) (sym (le-ltb j 0 (omega arith)))
+
+-- the next, i, is joined to the sets of its own a
+pub turned-more : (f : ℕ → ℕ → Bool) (i : ℕ) (own single : TxSet) {old new : List ℕ} → i < positions → positions ≤ length old
+    → ((a : ℕ) → mem own a ≡ f i a) → ((j : ℕ) → mem single j ≡ (isPosition j && eqb j i)) → Joined own single old new
+    → ((a j : ℕ) → mem (setAt old a) j ≡ (ltb j i && f j a)) → (a j : ℕ) → mem (setAt new a) j ≡ (ltb j (i + 1) && f j a)
+turned-more f i own single l long has-own has-i join h a j =
+    joined-at long join a j
+    ∙ ap₂ _||_ (h a j) (ap₂ _&&_ (has-own a) (has-i j))
+    ∙ by-position (λ j. ((ltb j i && f j a) || (f i a && (isPosition j && eqb j i))) ≡ (ltb j (i + 1) && f j a)) i
+    (rw (le-ltb i i (omega arith), lt-ltb i positions l, eq-eqb i i refl, below-here i) (and-true (f i a)))
+    (λ j n. rw (ne-eqb j i (λ e. n (sym e)), and-false (isPosition j), and-false (f i a), below-else j i n) (or-false (ltb j i && f j a)))
+    j

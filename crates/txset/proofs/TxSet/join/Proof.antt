@@ -3,17 +3,17 @@ use mathlib.Core.Path.{_≡_, sym, _∙_}
 use mathlib.Core.Bool.{false}
 use borrow.Author.Needs.{needs}
 use borrow.Author.Tests.{not-true, not-false}
 use Rattle.txset.specs.Sets.{isEmpty, size}
 use Rattle.txset.proofs.Walk.{walk-less}
-use Rattle.depgraph.proofs.Joins.{Joining, join-start, join-turn, join-done}
-use Rattle.depgraph.proofs.join.Statement.{statement}
-use Rattle.depgraph.proofs.join.Tie as tie
+use Rattle.txset.proofs.Joins.{Joining, join-start, join-turn, join-done}
+use Rattle.txset.proofs.TxSet.join.Statement.{statement}
+use Rattle.txset.proofs.TxSet.join.Tie as tie
 
 abbrev Inv-loop : tie.InvT-loop
-Inv-loop sets₀ extra rest₀ sets rest = Joining rest₀ extra sets₀ sets rest
+Inv-loop extra sets₀ rest₀ sets rest = Joining rest₀ extra sets₀ sets rest
 
 abbrev μ-loop : tie.MeasureT-loop
-μ-loop sets₀ extra rest₀ sets rest = size rest
+μ-loop extra sets₀ rest₀ sets rest = size rest
 
 loop-holds : tie.Need-loop-holds Inv-loop μ-loop
 loop-holds c = join-start _ _ _
@@ -47,7 +47,7 @@ same-length : tie.Need-same-length Inv-loop μ-loop
 same-length c = c .before .before .loop .inv .same
 
 returns : tie.Need-returns Inv-loop μ-loop
-returns c = join-done (sym (c .before .is-empty .ensures) ∙ not-false _ (c .if1 .left)) (c .before .before .loop .inv) .has
+returns c = join-done (sym (c .before .is-empty .ensures) ∙ not-false _ (c .if1 .left)) (c .before .before .loop .inv)
 
 pub join-spec : {M : Type 1} → statement M
 join-spec =
