@@ -92,14 +92,7 @@ fn line_end(text: &[u8], from: usize) -> usize
     requires { ⌜ from ≤ length (now text) ⌝ }
     ensures { λ r. ⌜ (from ≤ r) × (r ≤ length (now (text .entry))) ⌝ }
 {
-    let mut i = from;
-    while i < text.len() {
-        if text[i] == b'\n' {
-            return i;
-        }
-        i += 1;
-    }
-    i
+    bytes::scan::find(text, from, text.len(), b'\n')
 }
 
 fn starts(text: &[u8], key: &[u8]) -> bool

@@ -44,14 +44,7 @@ fn line_end(input: &[u8], from: usize) -> usize
     requires { ⌜ from ≤ length (now input) ⌝ }
     ensures { λ r. ⌜ (from ≤ r) × (r ≤ length (now (input .entry))) ⌝ }
 {
-    let mut i = from;
-    while i < input.len() {
-        if input[i] == b'\n' {
-            return i;
-        }
-        i += 1;
-    }
-    i
+    bytes::scan::find(input, from, input.len(), b'\n')
 }
 
 fn case(line: &[u8]) {
