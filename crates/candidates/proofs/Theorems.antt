@@ -1,18 +1,26 @@
--- What the order of specs/Candidates.antt is, for readers: each member once, and after its ancestors. `fs` are the fees of the members,
--- `ss` their sizes, and `anc i a` says that a is an ancestor of i. Assumes nothing.
-use mathlib.Core.Path.{_≡_, sym, ap, _∙_}
-use mathlib.Core.Bool.{Bool, true, not}
+-- What the order of specs/Candidates.antt is, for readers: each member once, and after its ancestors. Then what the sums are that it goes by.
+-- `fs` are the fees of the members, `ss` their sizes, and `anc i a` says that a is an ancestor of i. Assumes nothing.
+use mathlib.Core.Path.{_≡_, refl, sym, ap, ap₂, _∙_}
+use mathlib.Core.Bool.{Bool, true, false, not, _&&_, _||_, and-true}
 use mathlib.Core.List.{List, [], _∷_, _++_}
-use Prim.Native.Nat.{ℕ, _<_}
+use Prim.Native.Nat.{ℕ, suc, _+_, _-_, _*_, _≤_, _<_}
 use native.Mathlib.Omega.{arith}
-use lib.IntN.{ℤ}
-use lib.ListN.{length}
-use borrow.Author.Tests.{not-false}
-use Rattle.txset.specs.Below.{countFrom}
+use lib.Dec.{eqb}
+use lib.IntN.{ℤ, pos, natAbs, negℤ, _+ℤ_, _-ℤ_, +ℤ-idl, +ℤ-idr, +ℤ-assoc, +ℤ-comm, negℤ-+ℤ, +ℤ-negℤ-cancel}
+use lib.ListN.{length, getD}
+use borrow.Author.Tests.{not-true, not-false, eqb-true}
+use Rattle.feefrac.specs.declared.FeeFrac.{FeeFrac}
+use Rattle.feefrac.specs.Rate.{pick, heldSize, difference, rateAt}
+use Rattle.feefrac.proofs.Exact.{difference-exact, abs-difference, abs-exact, exactSum, spread, feeLimit, Within, within-at, sumOf}
+use Rattle.txset.specs.Below.{keepIf, countFrom, listFrom}
 use Rattle.txset.specs.Lists.{anyOf, elem, distinct}
-use Rattle.txset.proofs.Below.{elem-in, count-list}
-use Rattle.candidates.specs.Candidates.{remaining, ancestorOrder}
+use Rattle.txset.proofs.Below.{elem-in, count-list, list-ext, list-with, list-without}
+use Rattle.txset.proofs.Bools.{and-left, and-right}
+use Rattle.txset.proofs.Lists.{elem-head, elem-tail}
 use Rattle.txset.proofs.Ranges.{count-le}
+use Rattle.feeset.specs.Total.{total}
+use Rattle.feeset.proofs.Exact.{feesAt, sizesAt, total-fee, total-size}
+use Rattle.candidates.specs.Candidates.{givenBack, ancestorSum, remaining, remainingAncestors, rounds, ancestorOrder}
 use Rattle.candidates.proofs.Kept.{left, next-fresh, keeps-rounds, Once, once-none, once-more, rounds-all, After, after-none, after-more}
 
 module _ (fs : List ℤ) (ss : List ℕ) (anc : ℕ → ℕ → Bool) where
@@ -62,3 +70,206 @@ module _ (fs : List ℤ) (ss : List ℕ) (anc : ℕ → ℕ → Bool) where
   unfolding ancestorOrder
   after-ancestors through fewer =
       keeps-rounds (length fs) anc (After (length fs) anc) (after-more (length fs) anc through fewer) fs ss (length fs) [] (after-none (length fs) anc)
+
+-- ---- the sums, with members already out given back
+
+-- those of the list that have f, in its order
+unfoldable pub amongst : (ℕ → Bool) → List ℕ → List ℕ
+amongst f [] = []
+amongst f (t ∷ ts) = keepIf (f t) t (amongst f ts)
+
+-- a sum that does not ask for an order: that of the positions that have f is that of those of them in a list, and that of the others
+module _
+    {M : Type 0}
+    (add : M → M → M)
+    (assoc : (a b c : M) → add (add a b) c ≡ add a (add b c))
+    (comm : (a b : M) → add a b ≡ add b a)
+    (all : List ℕ → M)
+    (one : ℕ → M)
+    (nil : (a : M) → add (all []) a ≡ a)
+    (cons : (x : ℕ) (xs : List ℕ) → all (x ∷ xs) ≡ add (one x) (all xs)) where
+  swap : (a b c : M) → add a (add b c) ≡ add b (add a c)
+  swap a b c = sym (assoc a b c) ∙ ap (λ (d : M). add d c) (comm a b) ∙ assoc b a c
+
+  middle : (p : ℕ) (low high : List ℕ) → all (low ++ (p ∷ high)) ≡ add (one p) (all (low ++ high))
+  middle p [] high = cons p high
+  middle p (x ∷ low) high =
+      cons x (low ++ (p ∷ high)) ∙ ap (add (one x)) (middle p low high) ∙ swap (one x) (one p) (all (low ++ high))
+      ∙ ap (add (one p)) (sym (cons x (low ++ high)))
+
+  module _ (f : ℕ → Bool) (n t : ℕ) (ts : List ℕ) (below : t < n) (new : elem t ts ≡ false) where
+    less : (j : ℕ) → (f j && not (elem j (t ∷ ts))) ≡ ((f j && not (elem j ts)) && not (eqb j t))
+    unfolding elem anyOf
+    less j = turn (f j) (eqb j t) (elem j ts)
+      where
+        turn : (a b c : Bool) → (a && not (b || c)) ≡ ((a && not c) && not b)
+        turn true true true = refl
+        turn true true false = refl
+        turn true false true = refl
+        turn true false false = refl
+        turn false b c = refl
+
+    other : f t ≡ false → (j : ℕ) → ((f j && not (elem j ts)) && not (eqb j t)) ≡ (f j && not (elem j ts))
+    other e j = go (eqb j t) refl
+      where
+        go : (b : Bool) → eqb j t ≡ b → ((f j && not (elem j ts)) && not b) ≡ (f j && not (elem j ts))
+        go true q = rw (eqb-true j t q, e)
+        go false q = and-true (f j && not (elem j ts))
+
+    next : (b : Bool) → f t ≡ b → add (all (amongst f ts)) (all (listFrom (λ a. f a && not (elem a ts)) n 0))
+        ≡ add (all (keepIf b t (amongst f ts))) (all (listFrom (λ a. f a && not (elem a (t ∷ ts))) n 0))
+    next true e =
+        let g : ℕ → Bool = λ a. f a && not (elem a ts) in
+        let g' : ℕ → Bool = λ a. f a && not (elem a (t ∷ ts)) in
+        let at : g t ≡ true = ap₂ (λ (a b : Bool). a && not b) e new in
+        let low = listFrom g (t - 0) 0 in
+        let high = listFrom g (0 + n - suc t) (suc t) in
+        let with' : listFrom g n 0 ≡ low ++ (t ∷ high) = list-with g g' n 0 t (omega arith) (omega arith) at (λ j _ _. less j) in
+        let without' : listFrom g' n 0 ≡ low ++ high = list-without g g' n 0 t (omega arith) (omega arith) at (λ j _ _. less j) in
+        ap (add (all (amongst f ts))) (ap all with' ∙ middle t low high ∙ ap (λ (l : List ℕ). add (one t) (all l)) (sym without'))
+        ∙ sym (assoc (all (amongst f ts)) (one t) (all (listFrom g' n 0)))
+        ∙ ap (λ (a : M). add a (all (listFrom g' n 0))) (comm (all (amongst f ts)) (one t) ∙ sym (cons t (amongst f ts)))
+    next false e =
+        ap (λ (l : List ℕ). add (all (amongst f ts)) (all l))
+        (list-ext (λ a. f a && not (elem a ts)) (λ a. f a && not (elem a (t ∷ ts))) n 0 (λ j _ _. sym (less j ∙ other e j)))
+
+  in-parts : (f : ℕ → Bool) (n : ℕ) (out : List ℕ) → distinct out ≡ true → ((t : ℕ) → elem t out ≡ true → t < n)
+      → all (listFrom f n 0) ≡ add (all (amongst f out)) (all (listFrom (λ a. f a && not (elem a out)) n 0))
+  unfolding amongst distinct elem anyOf
+  in-parts f n [] d h =
+      ap all (list-ext f (λ a. f a && not (elem a [])) n 0 (λ j _ _. sym (and-true (f j))))
+      ∙ sym (nil (all (listFrom (λ a. f a && not (elem a [])) n 0)))
+  in-parts f n (t ∷ ts) d h =
+      in-parts f n ts (and-right (not (elem t ts)) (distinct ts) d) (λ i e. h i (elem-tail i t ts e))
+      ∙ next f n t ts (h t (elem-head t ts)) (not-true (elem t ts) (and-left (not (elem t ts)) (distinct ts) d)) (f t) refl
+
+module _ (fs : List ℤ) (ss : List ℕ) (isAnc : ℕ → Bool) where
+  -- what is given back is taken off exactly, where the fees, signs aside, stay below 2^63 together; so it is after each step, as this
+  -- holds of every list
+  pub back-fee : (acc : FeeFrac) (out : List ℕ) → natAbs (acc .fee) + spread (feesAt fs (amongst isAnc out)) < 9223372036854775808
+      → givenBack fs ss isAnc acc out .fee ≡ acc .fee -ℤ exactSum (feesAt fs (amongst isAnc out))
+  unfolding givenBack amongst exactSum spread rateAt
+  back-fee acc [] h = sym (+ℤ-idr (acc .fee))
+  back-fee acc (t ∷ ts) h = go (isAnc t) h (λ a k. back-fee a ts k)
+    where
+      rest : List ℕ
+      rest = amongst isAnc ts
+
+      go : (b : Bool) → natAbs (acc .fee) + spread (feesAt fs (keepIf b t rest)) < 9223372036854775808
+          → ((a : FeeFrac) → natAbs (a .fee) + spread (feesAt fs rest) < 9223372036854775808
+          → givenBack fs ss isAnc a ts .fee ≡ a .fee -ℤ exactSum (feesAt fs rest))
+          → givenBack fs ss isAnc (pick b (difference acc (rateAt fs ss t)) acc) ts .fee ≡ acc .fee -ℤ exactSum (feesAt fs (keepIf b t rest))
+      go true h k =
+          let r = rateAt fs ss t in
+          let e : difference acc r .fee ≡ acc .fee -ℤ r .fee = difference-exact acc r (omega arith) in
+          k (difference acc r) (omega (arith, ap natAbs e, abs-difference (acc .fee) (r .fee)))
+          ∙ ap (λ (z : ℤ). z -ℤ exactSum (feesAt fs rest)) e
+          ∙ +ℤ-assoc (acc .fee) (negℤ (r .fee)) (negℤ (exactSum (feesAt fs rest)))
+          ∙ ap (λ (z : ℤ). acc .fee +ℤ z) (sym (negℤ-+ℤ (r .fee) (exactSum (feesAt fs rest))))
+      go false h k = k acc h
+
+  -- the sizes that are given back are taken off together, down to 0
+  pub back-size : (acc : FeeFrac) (out : List ℕ) → givenBack fs ss isAnc acc out .size ≡ acc .size - sumOf (sizesAt ss (amongst isAnc out))
+  unfolding givenBack amongst sumOf rateAt difference
+  back-size acc [] = omega arith
+  back-size acc (t ∷ ts) = go (isAnc t) (λ a. back-size a ts)
+    where
+      rest : List ℕ
+      rest = amongst isAnc ts
+
+      go : (b : Bool) → ((a : FeeFrac) → givenBack fs ss isAnc a ts .size ≡ a .size - sumOf (sizesAt ss rest))
+          → givenBack fs ss isAnc (pick b (difference acc (rateAt fs ss t)) acc) ts .size ≡ acc .size - sumOf (sizesAt ss (keepIf b t rest))
+      go true k = omega (arith, k (difference acc (rateAt fs ss t)))
+      go false k = k acc
+
+-- the size of an ancestor sum is that of all the ancestors, held at 2^64 - 1, less that of those that are out, and 0 where that is more
+pub sum-size : (fs : List ℤ) (ss : List ℕ) (n : ℕ) (anc : ℕ → ℕ → Bool) (out : List ℕ) (i : ℕ)
+    → ancestorSum fs ss n anc out i .size
+    ≡ heldSize (sumOf (sizesAt ss (listFrom (anc i) n 0))) - sumOf (sizesAt ss (amongst (anc i) out))
+unfolding ancestorSum
+sum-size fs ss n anc out i =
+    back-size fs ss (anc i) (total fs ss (listFrom (anc i) n 0)) out
+    ∙ ap (λ (k : ℕ). k - sumOf (sizesAt ss (amongst (anc i) out))) (total-size fs ss (listFrom (anc i) n 0))
+
+-- an ancestor sum, after some members went out, none of them twice
+module _
+    (fs : List ℤ)
+    (ss : List ℕ)
+    (n : ℕ)
+    (anc : ℕ → ℕ → Bool)
+    (out : List ℕ)
+    (i : ℕ)
+    (once : distinct out ≡ true)
+    (below : (t : ℕ) → elem t out ≡ true → t < n) where
+  -- all the ancestors, those that are out, and those that are left
+  ancestors : List ℕ
+  ancestors = listFrom (anc i) n 0
+
+  gone : List ℕ
+  gone = amongst (anc i) out
+
+  fees-parts : exactSum (feesAt fs ancestors) ≡ exactSum (feesAt fs gone) +ℤ exactSum (feesAt fs (remainingAncestors n anc i out))
+  unfolding ancestors gone remainingAncestors exactSum
+  fees-parts =
+      in-parts _+ℤ_ +ℤ-assoc +ℤ-comm (λ is. exactSum (feesAt fs is)) (λ t. getD fs t (pos 0)) +ℤ-idl (λ x xs. refl) (anc i) n out once below
+
+  far-parts : spread (feesAt fs ancestors) ≡ spread (feesAt fs gone) + spread (feesAt fs (remainingAncestors n anc i out))
+  unfolding ancestors gone remainingAncestors spread
+  far-parts =
+      in-parts _+_ (λ a b c. omega arith) (λ a b. omega arith) (λ is. spread (feesAt fs is)) (λ t. natAbs (getD fs t (pos 0))) (λ a. omega arith)
+      (λ x xs. refl) (anc i) n out once below
+
+  sizes-parts : sumOf (sizesAt ss ancestors) ≡ sumOf (sizesAt ss gone) + sumOf (sizesAt ss (remainingAncestors n anc i out))
+  unfolding ancestors gone remainingAncestors sumOf
+  sizes-parts =
+      in-parts _+_ (λ a b c. omega arith) (λ a b. omega arith) (λ is. sumOf (sizesAt ss is)) (λ t. getD ss t 0) (λ a. omega arith) (λ x xs. refl)
+      (anc i) n out once below
+
+  module _ (few : n ≤ 64) (within : Within fs) where
+    far : (is : List ℕ) → spread (feesAt fs is) ≤ feeLimit * length is
+    unfolding spread
+    far [] = omega arith
+    far (t ∷ ts) = omega (arith, within-at fs within t, far ts)
+
+    few-ancestors : length ancestors ≤ 64
+    unfolding ancestors
+    few-ancestors = omega (arith, count-le (anc i) n 0, count-list (anc i) n 0)
+
+    -- fees within the limits, at most 64 members: the fee is, as an integer, that of all the ancestors less that of those that are out, and
+    -- is never held at an end
+    pub sum-fee : ancestorSum fs ss n anc out i .fee ≡ exactSum (feesAt fs (listFrom (anc i) n 0)) -ℤ exactSum (feesAt fs (amongst (anc i) out))
+    unfolding ancestorSum ancestors gone
+    sum-fee =
+        let e : total fs ss ancestors .fee ≡ exactSum (feesAt fs ancestors) = total-fee fs ss within ancestors few-ancestors in
+        back-fee fs ss (anc i) (total fs ss ancestors) out
+        (omega (arith, ap natAbs e, abs-exact (feesAt fs ancestors), far-parts, far ancestors, few-ancestors))
+        ∙ ap (λ (z : ℤ). z -ℤ exactSum (feesAt fs gone)) e
+
+    -- so it is the exact sum of the fees of the ancestors that are left
+    pub sum-fee-left : ancestorSum fs ss n anc out i .fee ≡ exactSum (feesAt fs (remainingAncestors n anc i out))
+    unfolding ancestors gone
+    sum-fee-left =
+        sum-fee
+        ∙ ap (λ (z : ℤ). z -ℤ exactSum (feesAt fs gone))
+        (fees-parts ∙ +ℤ-comm (exactSum (feesAt fs gone)) (exactSum (feesAt fs (remainingAncestors n anc i out))))
+        ∙ +ℤ-negℤ-cancel (exactSum (feesAt fs (remainingAncestors n anc i out))) (exactSum (feesAt fs gone))
+
+  -- the size is the exact sum of the sizes of the ancestors that are left, where those of all the ancestors are not held
+  pub sum-size-left : sumOf (sizesAt ss (listFrom (anc i) n 0)) ≤ 18446744073709551615
+      → ancestorSum fs ss n anc out i .size ≡ sumOf (sizesAt ss (remainingAncestors n anc i out))
+  unfolding ancestors gone
+  sum-size-left h = omega (arith, sum-size fs ss n anc out i, sizes-parts)
+
+-- these are the sums that are compared: what is out after k rounds are members, none of them twice
+module _ (fs : List ℤ) (ss : List ℕ) (anc : ℕ → ℕ → Bool) (k i : ℕ) where
+  outs : Once (length fs) (rounds fs ss (length fs) anc k [])
+  outs =
+      let n = length fs in
+      keeps-rounds n anc (Once n)
+      (λ i out t l e h. let f = next-fresh n anc i out t e in once-more n out t (f .below) (f .new) h)
+      fs ss k [] (once-none n)
+
+  -- in each round every sum's fee is the exact sum of the fees of the ancestors that are left
+  pub round-fee : length fs ≤ 64 → Within fs → (let out = rounds fs ss (length fs) anc k [] in
+      ancestorSum fs ss (length fs) anc out i .fee ≡ exactSum (feesAt fs (remainingAncestors (length fs) anc i out)))
+  round-fee few within = sum-fee-left fs ss (length fs) anc (rounds fs ss (length fs) anc k []) i (outs .once) (outs .below) few within

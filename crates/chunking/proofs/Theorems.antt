@@ -1,26 +1,25 @@
 -- What holds of the chunks of every list of members. Assumes nothing.
-use Prim.Native.Nat.{ℕ, zero, suc, _+_, _≤_, _<_}
+use Prim.Native.Nat.{ℕ, zero, suc, _+_, _^_, _≤_, _<_}
 use native.Mathlib.Nat.{not-suc-le-zero, le-of-suc-le-suc}
 use native.Mathlib.Omega.{arith}
 use mathlib.Core.Path.{_≡_, refl, sym, ap, ap₂, _∙_}
 use mathlib.Core.Bool.{Bool, true, false, not, _&&_, and-eq-true-iff}
 use mathlib.Core.List.{List, [], _∷_, _++_, map, map-append, append-nil, append-assoc}
-use lib.ListN.{length, getD, length-append, length-map}
+use lib.Dec.{lit<}
+use lib.ListN.{length, take, drop, getD, length-append, length-map}
+use lib.Seq.{take-append-seam, drop-append-seam, take-at, drop-at}
 use lib.IntN.{ℤ, natAbs, _+ℤ_, +ℤ-idr, +ℤ-comm}
-use Rattle.feefrac.proofs.Exact.{sum-exact, exactSum, exact-append, spread, spread-append, abs-exact, Within, within-spread}
+use Rattle.feefrac.proofs.Exact.{sum-exact, exactSum, exact-append, spread, spread-append, abs-exact, Within, within-spread, sumOf, sumOf-append}
+use Rattle.feefrac.proofs.Picks.{pick-where}
 use Rattle.feefrac.specs.declared.FeeFrac.{FeeFrac}
-use Rattle.feefrac.specs.Rate.{pick, higher}
+use Rattle.feefrac.specs.Rate.{pick, heldSize, sum, higher}
 use Rattle.txset.specs.Sets.{positions}
+use Rattle.txset.proofs.Words.{Fits}
 use Rattle.refusals.specs.Refusals.{anyOutside}
 use Rattle.refusals.proofs.Limits.{inside-within}
 use Rattle.chunking.specs.declared.Chunk.{Chunk}
 use Rattle.chunking.specs.Chunks.{alone, joined, swallow, chunksAfter, lengthsOf, chunkLengths, rates}
 use Rattle.chunking.proofs.Laws.{count}
-
--- what holds of each of two where it is picked holds of the one picked
-pick-either : {A : Type 0} (P : A → Type 0) (b : Bool) {x y : A} → (b ≡ true → P x) → (b ≡ false → P y) → P (pick b x y)
-pick-either P true p q = p refl
-pick-either P false p q = q refl
 
 -- what swallowing keeps, the chunks of a list have
 after-keeps : (P : List Chunk → Type 0) → ((r : FeeFrac) (cs : List Chunk) → P cs → P (swallow (alone r) cs))
@@ -31,25 +30,16 @@ after-keeps P k (r ∷ rs) cs p = after-keeps P k rs (swallow (alone r) cs) (k r
 
 -- ---- the lengths add up to the members
 
-unfoldable pub total : List ℕ → ℕ
-total [] = 0
-total (k ∷ ks) = k + total ks
-
-total-append : (xs ys : List ℕ) → total (xs ++ ys) ≡ total xs + total ys
-unfolding total
-total-append [] ys = omega arith
-total-append (x ∷ xs) ys = omega (arith, total-append xs ys)
-
-total-lengths : (cs : List Chunk) → total (lengthsOf cs) ≡ count cs
-unfolding total count lengthsOf
+total-lengths : (cs : List Chunk) → sumOf (lengthsOf cs) ≡ count cs
+unfolding sumOf count lengthsOf
 total-lengths [] = refl
-total-lengths (c ∷ cs) = omega (arith, total-append (lengthsOf cs) (c .len ∷ []), total-lengths cs)
+total-lengths (c ∷ cs) = omega (arith, sumOf-append (lengthsOf cs) (c .len ∷ []), total-lengths cs)
 
 count-swallow : (c : Chunk) (cs : List Chunk) → count (swallow c cs) ≡ c .len + count cs
 unfolding count swallow
 count-swallow c [] = refl
 count-swallow c (t ∷ ts) =
-    pick-either (λ (l : List Chunk). count l ≡ c .len + (t .len + count ts)) (higher (c .rate) (t .rate))
+    pick-where (λ (l : List Chunk). count l ≡ c .len + (t .len + count ts)) (higher (c .rate) (t .rate))
     (λ e. omega (arith, count-swallow (joined c t) ts))
     (λ e. refl)
 
@@ -58,7 +48,7 @@ unfolding chunksAfter
 count-after [] cs = omega arith
 count-after (r ∷ rs) cs = omega (arith, count-after rs (swallow (alone r) cs), count-swallow (alone r) cs)
 
-pub lengths-sum : (rs : List FeeFrac) → total (chunkLengths rs) ≡ length rs
+pub lengths-sum : (rs : List FeeFrac) → sumOf (chunkLengths rs) ≡ length rs
 unfolding chunkLengths count
 lengths-sum rs = omega (arith, total-lengths (chunksAfter [] rs), count-after rs [])
 
@@ -79,7 +69,7 @@ filled-swallow : (c : Chunk) (cs : List Chunk) → Filled c → Each Filled cs �
 unfolding Each swallow
 filled-swallow c [] h p = (h, tt)
 filled-swallow c (t ∷ ts) h p =
-    pick-either (Each Filled) (higher (c .rate) (t .rate)) (λ e. filled-swallow (joined c t) ts (omega arith) (p .1)) (λ e. (h, p))
+    pick-where (Each Filled) (higher (c .rate) (t .rate)) (λ e. filled-swallow (joined c t) ts (omega arith) (p .1)) (λ e. (h, p))
 
 each-snoc : (xs : List ℕ) (k : ℕ) → Each Some xs → Some k → Each Some (xs ++ (k ∷ []))
 unfolding Each
@@ -106,8 +96,8 @@ lengths-positive rs = each-at (chunkLengths rs) (each-some rs)
 
 -- ---- so there are no more chunks than members
 
-some-few : (xs : List ℕ) → Each Some xs → length xs ≤ total xs
-unfolding Each total
+some-few : (xs : List ℕ) → Each Some xs → length xs ≤ sumOf xs
+unfolding Each sumOf
 some-few [] p = omega arith
 some-few (x ∷ xs) p = omega (arith, p .0, some-few xs (p .1))
 
@@ -131,7 +121,7 @@ falling-swallow : (c : Chunk) (cs : List Chunk) → falling cs ≡ true → fall
 unfolding falling swallow
 falling-swallow c [] e = refl
 falling-swallow c (t ∷ ts) e =
-    pick-either (λ (cs : List Chunk). falling cs ≡ true) (higher (c .rate) (t .rate))
+    pick-where (λ (cs : List Chunk). falling cs ≡ true) (higher (c .rate) (t .rate))
     (λ h. falling-swallow (joined c t) ts (falling-rest t ts e))
     (λ h. rw h e)
 
@@ -184,7 +174,7 @@ exact-swallow : (c : Chunk) (cs : List Chunk) (front own : List FeeFrac) → far
 unfolding CutInto swallow
 exact-swallow c [] front own h p k = (front, own, refl, p, k)
 exact-swallow c (t ∷ ts) front own h p k =
-    pick-either (CutInto (front ++ own)) (higher (c .rate) (t .rate))
+    pick-where (CutInto (front ++ own)) (higher (c .rate) (t .rate))
     (λ _.
     rw (k .2, append-assoc (k .0) (k .1) own)
     (exact-swallow (joined c t) ts (k .0) (k .1 ++ own)
@@ -220,3 +210,93 @@ rates-far (f ∷ fs) (s ∷ ss) = omega (arith, rates-far fs ss)
 -- and for every cluster that the call does not refuse
 pub call-exact : (fs : List ℤ) (ss : List ℕ) → length fs ≤ positions → anyOutside fs ≡ false → CutInto (rates fs ss) (chunksAfter [] (rates fs ss))
 call-exact fs ss few e = chunks-exact (rates fs ss) (omega (arith, rates-far fs ss, within-spread fs (inside-within fs e)))
+
+-- ---- each chunk has the sum of its members' sizes, or 2^64 - 1 where that is more
+
+abbrev pub sizesOf : List FeeFrac → List ℕ
+sizesOf rs = map (λ r. r .size) rs
+
+-- c is the chunk of these members: the sum of their sizes is held at the top once, whatever the order in which they were joined
+pub record Sized (c : Chunk) (own : List FeeFrac) : Type 0 where
+  pub len : c .len ≡ length own
+  pub size : c .rate .size ≡ heldSize (sumOf (sizesOf own))
+
+-- the members are those of the chunks, one after the other, the last chunk's last, and each chunk has the property with its own
+unfoldable pub CutBy : (Chunk → List FeeFrac → Type 0) → List FeeFrac → List Chunk → Type 0
+CutBy P rs [] = rs ≡ []
+CutBy P rs (c ∷ cs) = (front : List FeeFrac) × (own : List FeeFrac) × (rs ≡ front ++ own) × P c own × CutBy P front cs
+
+sized-alone : (r : FeeFrac) → r .size < 2 ^ 64 → Sized (alone r) (r ∷ [])
+unfolding sumOf
+sized-alone r h = record { len = refl; size = omega arith }
+
+sized-joined : (c t : Chunk) (xs ys : List FeeFrac) → Sized c ys → Sized t xs → Sized (joined c t) (xs ++ ys)
+unfolding sum
+sized-joined c t xs ys p q =
+    let e : sumOf (sizesOf (xs ++ ys)) ≡ sumOf (sizesOf xs) + sumOf (sizesOf ys) =
+    ap sumOf (map-append (λ r. r .size) xs ys) ∙ sumOf-append (sizesOf xs) (sizesOf ys) in
+    record { len = omega (arith, length-append xs ys, p .len, q .len); size = omega (arith, p .size, q .size) }
+
+sized-swallow : (c : Chunk) (cs : List Chunk) (front own : List FeeFrac) → Sized c own → CutBy Sized front cs → CutBy Sized (front ++ own) (swallow c cs)
+unfolding CutBy swallow
+sized-swallow c [] front own p k = (front, own, refl, p, k)
+sized-swallow c (t ∷ ts) front own p k =
+    pick-where (CutBy Sized (front ++ own)) (higher (c .rate) (t .rate))
+    (λ _.
+    rw (k .2, append-assoc (k .0) (k .1) own)
+    (sized-swallow (joined c t) ts (k .0) (k .1 ++ own) (sized-joined c t (k .1) own p (k .3)) (k .4)))
+    (λ _. (front, own, refl, p, k))
+
+sized-after : (rs front : List FeeFrac) (cs : List Chunk) → Fits (sizesOf rs) → CutBy Sized front cs → CutBy Sized (front ++ rs) (chunksAfter cs rs)
+unfolding chunksAfter
+sized-after [] front cs h k = rw (append-nil front) k
+sized-after (r ∷ rs) front cs h k =
+    rw (append-assoc front (r ∷ []) rs) at
+    (sized-after rs (front ++ (r ∷ [])) (swallow (alone r) cs) (λ j. h (suc j))
+    (sized-swallow (alone r) cs front (r ∷ []) (sized-alone r (h 0)) k))
+
+-- for any fees, and sizes that are below 2^64 each, as those of a machine are
+pub chunks-sized : (rs : List FeeFrac) → Fits (sizesOf rs) → CutBy Sized rs (chunksAfter [] rs)
+unfolding CutBy
+chunks-sized rs h = sized-after rs [] [] h refl
+
+rates-fit : (fs : List ℤ) (ss : List ℕ) → Fits ss → Fits (sizesOf (rates fs ss))
+unfolding rates
+rates-fit [] ss h j = lit< tt
+rates-fit (f ∷ fs) [] h j = lit< tt
+rates-fit (f ∷ fs) (s ∷ ss) h zero = h 0
+rates-fit (f ∷ fs) (s ∷ ss) h (suc j) = rates-fit fs ss (λ i. h (suc i)) j
+
+-- so for every cluster
+pub call-sized : (fs : List ℤ) (ss : List ℕ) → Fits ss → CutBy Sized (rates fs ss) (chunksAfter [] (rates fs ss))
+call-sized fs ss h = chunks-sized (rates fs ss) (rates-fit fs ss h)
+
+-- ---- the fee and the size of a chunk are those of the same members
+
+-- the sum of c is that of these members: the fee exactly, the size up to 2^64 - 1
+pub record Sums (c : Chunk) (own : List FeeFrac) : Type 0 where
+  pub len : c .len ≡ length own
+  pub fee : c .rate .fee ≡ exactSum (feesOf own)
+  pub size : c .rate .size ≡ heldSize (sumOf (sizesOf own))
+
+-- two cuts of one list into chunks of the same lengths are one cut
+sums-both : (rs qs : List FeeFrac) (cs : List Chunk) → rs ≡ qs → CutInto rs cs → CutBy Sized qs cs → CutBy Sums rs cs
+unfolding CutInto CutBy
+sums-both rs qs [] q j k = j
+sums-both rs qs (c ∷ cs) q j k =
+    let e : j .0 ++ j .1 ≡ k .0 ++ k .1 = sym (j .2) ∙ q ∙ k .2 in
+    let l : length (k .0) ≡ length (j .0) =
+    omega (arith, ap length e, length-append (j .0) (j .1), length-append (k .0) (k .1), j .3 .len, k .3 .len) in
+    let f : j .0 ≡ k .0 = sym (take-append-seam (j .0) (j .1)) ∙ ap (take (length (j .0))) e ∙ take-at (k .0) (k .1) (length (j .0)) l in
+    let o : j .1 ≡ k .1 = sym (drop-append-seam (j .0) (j .1)) ∙ ap (drop (length (j .0))) e ∙ drop-at (k .0) (k .1) (length (j .0)) l in (
+      j .0,
+      j .1,
+      j .2,
+      record { len = j .3 .len; fee = j .3 .fee; size = k .3 .size ∙ ap (λ (own : List FeeFrac). heldSize (sumOf (sizesOf own))) (sym o) },
+      sums-both (j .0) (k .0) cs f (j .4) (k .4),
+    )
+
+-- for every cluster that the call does not refuse
+pub call-sums : (fs : List ℤ) (ss : List ℕ) → length fs ≤ positions → anyOutside fs ≡ false → Fits ss
+    → CutBy Sums (rates fs ss) (chunksAfter [] (rates fs ss))
+call-sums fs ss few e h = sums-both (rates fs ss) (rates fs ss) (chunksAfter [] (rates fs ss)) refl (call-exact fs ss few e) (call-sized fs ss h)

@@ -1,6 +1,6 @@
 -- Theorems for readers of specs/Graph.antt: the computed closure is the inductive one, ancestors are ordered where no one is above itself,
--- and an ancestor has fewer ancestors. Assumes nothing.
-use mathlib.Core.Path.{_≡_, refl, sym}
+-- an ancestor has fewer ancestors, and there is one graph for the same parents. Assumes nothing.
+use mathlib.Core.Path.{_≡_, refl, sym, ap, ap₂, _∙_}
 use mathlib.Core.Bool.{Bool, true, false, _||_, or-true}
 use mathlib.Core.Logic.{_⊎_, inl, inr, ⊎-elim}
 use mathlib.Core.List.{List}
@@ -12,6 +12,11 @@ use lib.ListN.{length}
 use borrow.Author.Tests.{lt-ltb, eq-eqb, ltb-true, eqb-true}
 use Rattle.txset.specs.Below.{countFrom, firstFrom}
 use Rattle.txset.proofs.Below.{clash, first-has, first-below}
+use Rattle.txset.specs.Sets.{positions}
+use Rattle.txset.proofs.Words.{Fits}
+use Rattle.txset.proofs.Theorems.{sets-ext}
+use Rattle.depgraph.specs.declared.DepGraph.{DepGraph}
+use Rattle.depgraph.specs.Closed.{Closed}
 use Rattle.depgraph.specs.Graph.{isParent, Above, parent, further, reach, isAbove, isAncestor, isCyclic}
 use Rattle.depgraph.proofs.Reach.{and-both, or-either, Both, parent-both, reach-either, above-both}
 use Rattle.depgraph.proofs.Counts.{any-at, count-less}
@@ -151,3 +156,25 @@ fewer ps i a acyclic u n =
     go : (b : Bool) → isAncestor ps a i ≡ b → isAncestor ps a i ≡ false
     go true e = absurd (n (ancestor-antisym ps i a acyclic u e))
     go false e = e
+
+-- ---- one graph for the same parents
+
+-- the tables of a graph, as a machine has them: 64 sets each, every one a word below 2^64
+pub record Tables (g : DepGraph) : Type 0 where
+  pub ancestors-long : length (g .ancestors) ≡ positions
+  pub descendants-long : length (g .descendants) ≡ positions
+  pub ancestors-fit : Fits (g .ancestors)
+  pub descendants-fit : Fits (g .descendants)
+
+-- two graphs that are closed for the same parents are one value: `Closed` allows one outcome only
+pub graph-ext : (ps : List ℕ) (g h : DepGraph) → Tables g → Tables h → Closed ps g → Closed ps h → g ≡ h
+graph-ext ps g h s t c d =
+    let a : g .ancestors ≡ h .ancestors =
+    sets-ext (g .ancestors) (h .ancestors) (s .ancestors-long ∙ sym (t .ancestors-long)) (s .ancestors-fit) (t .ancestors-fit)
+    (λ i a. c .ancestors i a ∙ sym (d .ancestors i a)) in
+    let b : g .descendants ≡ h .descendants =
+    sets-ext (g .descendants) (h .descendants) (s .descendants-long ∙ sym (t .descendants-long)) (s .descendants-fit) (t .descendants-fit)
+    (λ i a. c .descendants i a ∙ sym (d .descendants i a)) in
+    let e : g .cyclic ≡ h .cyclic = c .cyclic ∙ sym (d .cyclic) in
+    ap₂ {C = DepGraph} (λ (u v : List ℕ). record { ancestors = u; descendants = v; cyclic = g .cyclic }) a b
+    ∙ ap {B = DepGraph} (λ (x : Bool). record { ancestors = h .ancestors; descendants = h .descendants; cyclic = x }) e

@@ -1,7 +1,7 @@
 -- Where a fee sum is not held: two fees whose sizes, signs aside, add up to less than 2^63. Assumes nothing.
 use mathlib.Core.Path.{_≡_, sym, ap, _∙_}
 use mathlib.Core.List.{List, [], _∷_, _++_}
-use Prim.Native.Nat.{ℕ, suc, _+_, _*_, _≤_, _<_}
+use Prim.Native.Nat.{ℕ, zero, suc, _+_, _*_, _≤_, _<_}
 use native.Mathlib.Omega.{arith}
 use lib.IntN.{ℤ, pos, negsuc, negℤ, natAbs, _+ℤ_, _-ℤ_, +ℤ-idl, +ℤ-assoc}
 use lib.ListN.{length, getD}
@@ -70,6 +70,16 @@ unfolding exactSum spread
 abs-exact [] = omega arith
 abs-exact (f ∷ fs) = omega (arith, abs-sum f (exactSum fs), abs-exact fs)
 
+-- the sum of some numbers, as of sizes
+unfoldable pub sumOf : List ℕ → ℕ
+sumOf [] = 0
+sumOf (n ∷ ns) = n + sumOf ns
+
+pub sumOf-append : (xs ys : List ℕ) → sumOf (xs ++ ys) ≡ sumOf xs + sumOf ys
+unfolding sumOf
+sumOf-append [] ys = omega arith
+sumOf-append (x ∷ xs) ys = omega (arith, sumOf-append xs ys)
+
 -- the bound of a cluster fee, either sign
 abbrev pub feeLimit : ℕ
 feeLimit = 4200000000000000
@@ -82,3 +92,9 @@ pub within-spread : (fs : List ℤ) → Within fs → spread fs ≤ feeLimit * l
 unfolding spread
 within-spread [] h = omega arith
 within-spread (f ∷ fs) h = omega (arith, h 0 (omega arith), within-spread fs (λ i l. h (suc i) (omega arith)))
+
+-- then so is what is read at any place: past the end it is 0
+pub within-at : (fs : List ℤ) → Within fs → (i : ℕ) → natAbs (getD fs i (pos 0)) ≤ feeLimit
+within-at [] h i = omega arith
+within-at (f ∷ fs) h zero = h 0 (omega arith)
+within-at (f ∷ fs) h (suc i) = within-at fs (λ j l. h (suc j) (omega arith)) i

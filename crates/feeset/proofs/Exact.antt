@@ -1,15 +1,13 @@
 -- How exact a feerate sum is: within the limits its fee is never held, and its size is held only at 2^64 - 1. Assumes nothing.
 use mathlib.Core.Path.{_≡_, sym, ap, _∙_}
-use mathlib.Core.Logic.{⊎-elim}
 use mathlib.Core.List.{List, [], _∷_, map}
 use Prim.Native.Nat.{ℕ, _+_, _*_, _≤_, _<_, min}
 use native.Mathlib.Omega.{arith}
 use lib.IntN.{ℤ, pos, natAbs, _+ℤ_, +ℤ-idl, +ℤ-idr, +ℤ-assoc}
-use lib.ListN.{length, getD, List·getD-eq-default}
+use lib.ListN.{length, getD}
 use Rattle.feefrac.specs.declared.FeeFrac.{FeeFrac}
 use Rattle.feefrac.specs.Rate.{zeroRate, sum, rateAt}
-use Rattle.feefrac.proofs.Exact.{abs-sum, sum-exact, exactSum, spread, feeLimit, Within}
-use Rattle.txset.proofs.Below.{lt-or-ge}
+use Rattle.feefrac.proofs.Exact.{abs-sum, sum-exact, exactSum, sumOf, spread, feeLimit, Within, within-at}
 use Rattle.feeset.specs.Total.{totalFrom, total}
 
 -- the fees and the sizes at some positions, 0 for one past the end
@@ -38,15 +36,10 @@ module _ (fs : List ℤ) (ss : List ℕ) where
   total-exact is h = from-fee zeroRate is (omega arith) ∙ +ℤ-idl (exactSum (feesAt fs is))
 
   module _ (within : Within fs) where
-    -- a position past the end has the fee 0
-    within-at : (i : ℕ) → natAbs (getD fs i (pos 0)) ≤ feeLimit
-    within-at i =
-        ⊎-elim (within i) (λ l. omega (arith, ap natAbs (List·getD-eq-default fs (pos 0) l))) (lt-or-ge i (length fs))
-
     at-spread : (is : List ℕ) → spread (feesAt fs is) ≤ feeLimit * length is
     unfolding spread
     at-spread [] = omega arith
-    at-spread (i ∷ is) = omega (arith, within-at i, at-spread is)
+    at-spread (i ∷ is) = omega (arith, within-at fs within i, at-spread is)
 
     -- so it is for at most 64 positions and fees within the limit
     pub total-fee : (is : List ℕ) → length is ≤ 64 → total fs ss is .fee ≡ exactSum (feesAt fs is)
@@ -54,18 +47,13 @@ module _ (fs : List ℤ) (ss : List ℕ) where
 
 -- ---- sizes
 
--- the exact sum of some sizes
-unfoldable pub exactSize : List ℕ → ℕ
-exactSize [] = 0
-exactSize (s ∷ ss) = s + exactSize ss
-
 module _ (fs : List ℤ) (ss : List ℕ) where
   from-size : (acc : FeeFrac) (is : List ℕ) → acc .size ≤ 18446744073709551615
-      → totalFrom fs ss acc is .size ≡ min (acc .size + exactSize (sizesAt ss is)) 18446744073709551615
-  unfolding totalFrom rateAt sum exactSize
+      → totalFrom fs ss acc is .size ≡ min (acc .size + sumOf (sizesAt ss is)) 18446744073709551615
+  unfolding totalFrom rateAt sum sumOf
   from-size acc [] h = omega arith
   from-size acc (i ∷ is) h = omega (arith, from-size (sum acc (rateAt fs ss i)) is (omega arith))
 
   -- the size of a sum is the exact sum, or 2^64 - 1 where that is more
-  pub total-size : (is : List ℕ) → total fs ss is .size ≡ min (exactSize (sizesAt ss is)) 18446744073709551615
+  pub total-size : (is : List ℕ) → total fs ss is .size ≡ min (sumOf (sizesAt ss is)) 18446744073709551615
   total-size is = omega (arith, from-size zeroRate is (omega arith))

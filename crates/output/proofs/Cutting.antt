@@ -24,7 +24,8 @@ use Rattle.txset.proofs.Below.{lt-or-ge}
 use Rattle.txset.proofs.Sets.{put-same, put-other, length-put}
 use Rattle.chunking.specs.Chunks.{rates, fits, written, filled}
 use Rattle.chunking.proofs.Laws.{length-rates, rates-at}
-use Rattle.chunking.proofs.Theorems.{total, lengths-sum, lengths-few}
+use Rattle.feefrac.proofs.Exact.{sumOf}
+use Rattle.chunking.proofs.Theorems.{lengths-sum, lengths-few}
 use Rattle.output.specs.Output.{cut, chunksOf, chunkAt, orderLengths, cuts, lengthsWritten, lengthsFilled}
 use Rattle.output.specs.Setup.{Gathered}
 use Rattle.output.specs.Steps.{All, Cut}
@@ -216,12 +217,12 @@ module _ {list : List ℕ} {top k : ℕ} (h : Topping list top k) where
 -- ---- cut
 
 -- where the k-th part of a cut starts, and how long it is
-pub cut-at : (ls xs : List ℕ) (k : ℕ) → k < length ls → chunkAt (cut ls xs) k ≡ take (getD ls k 0) (drop (total (take k ls)) xs)
-unfolding cut total
+pub cut-at : (ls xs : List ℕ) (k : ℕ) → k < length ls → chunkAt (cut ls xs) k ≡ take (getD ls k 0) (drop (sumOf (take k ls)) xs)
+unfolding cut sumOf
 cut-at [] xs k h = absurd (not-suc-le-zero h)
 cut-at (l ∷ ls) xs zero h = refl
 cut-at (l ∷ ls) xs (suc k) h =
-    cut-at ls (drop l xs) k (le-of-suc-le-suc h) ∙ ap (take (getD ls k 0)) (drop-drop (total (take k ls)) l xs)
+    cut-at ls (drop l xs) k (le-of-suc-le-suc h) ∙ ap (take (getD ls k 0)) (drop-drop (sumOf (take k ls)) l xs)
 
 pub length-cut : (ls xs : List ℕ) → length (cut ls xs) ≡ length ls
 unfolding cut
@@ -229,18 +230,18 @@ length-cut [] xs = refl
 length-cut (l ∷ ls) xs = ap suc (length-cut ls (drop l xs))
 
 -- the next part starts where this one ends
-total-next : (ls : List ℕ) (k : ℕ) → k < length ls → total (take (suc k) ls) ≡ total (take k ls) + getD ls k 0
-unfolding total
-total-next [] k h = absurd (not-suc-le-zero h)
-total-next (l ∷ ls) zero h = omega arith
-total-next (l ∷ ls) (suc k) h = omega (arith, total-next ls k (le-of-suc-le-suc h))
+sum-next : (ls : List ℕ) (k : ℕ) → k < length ls → sumOf (take (suc k) ls) ≡ sumOf (take k ls) + getD ls k 0
+unfolding sumOf
+sum-next [] k h = absurd (not-suc-le-zero h)
+sum-next (l ∷ ls) zero h = omega arith
+sum-next (l ∷ ls) (suc k) h = omega (arith, sum-next ls k (le-of-suc-le-suc h))
 
-total-take : (ls : List ℕ) (k : ℕ) → total (take k ls) ≤ total ls
-unfolding total
-total-take [] zero = omega arith
-total-take [] (suc k) = omega arith
-total-take (l ∷ ls) zero = omega arith
-total-take (l ∷ ls) (suc k) = omega (arith, total-take ls k)
+sum-take : (ls : List ℕ) (k : ℕ) → sumOf (take k ls) ≤ sumOf ls
+unfolding sumOf
+sum-take [] zero = omega arith
+sum-take [] (suc k) = omega arith
+sum-take (l ∷ ls) zero = omega arith
+sum-take (l ∷ ls) (suc k) = omega (arith, sum-take ls k)
 
 -- of the positions of a list those below n
 within : {n : ℕ} (i : ℕ) (b : Bool) → n ≤ positions → ((isPosition i && b) && ltb i n) ≡ (ltb i n && b)
@@ -268,14 +269,14 @@ lengths-are fs ss order room new r x y p q =
 -- the first k chunks of the order are written; the next starts at `start`
 pub record Cutting (n : ℕ) (ls order sets tops : List ℕ) (start k : ℕ) : Type 0 where
   pub up : k ≤ length ls
-  pub from : start ≡ total (take k ls)
+  pub from : start ≡ sumOf (take k ls)
   pub sets-long : length sets ≡ positions
   pub tops-long : length tops ≡ positions
   pub sets-are : (j : ℕ) → j < k → (i : ℕ) → mem (setAt sets j) i ≡ (ltb i n && elem i (chunkAt (cut ls order) j))
   pub tops-are : (j : ℕ) → j < k → getD tops j 0 ≡ highestOf (chunkAt (cut ls order) j)
 
 pub cut-start : {n : ℕ} {ls order sets tops : List ℕ} → length sets ≡ positions → length tops ≡ positions → Cutting n ls order sets tops 0 0
-unfolding total
+unfolding sumOf
 cut-start a b =
     record { up = omega arith; from = refl; sets-long = a; tops-long = b; sets-are = below-none _; tops-are = below-none _ }
 
@@ -290,7 +291,7 @@ module _ (fs : List ℤ) (ss order : List ℕ) {lens : List ℕ} {r : ℕ} (is :
   ls = orderLengths fs ss order
 
   -- the chunks take up the order, and there are no more of them than members
-  cut-sum : total ls ≡ length order
+  cut-sum : sumOf ls ≡ length order
   unfolding ls
   cut-sum = lengths-sum (map (rateAt fs ss) order) ∙ length-map order (rateAt fs ss)
 
@@ -309,7 +310,7 @@ module _ (fs : List ℤ) (ss order : List ℕ) {lens : List ℕ} {r : ℕ} (is :
           record {
             small = omega (arith, cut-few);
             short = few;
-            ends = omega (arith, h .from, is .at k l, total-next ls k next, total-take ls (suc k), cut-sum);
+            ends = omega (arith, h .from, is .at k l, sum-next ls k next, sum-take ls (suc k), cut-sum);
           }
 
       -- the chunk's set and its highest position are put
@@ -326,7 +327,7 @@ module _ (fs : List ℤ) (ss order : List ℕ) {lens : List ℕ} {r : ℕ} (is :
           rw (p, q)
           (record {
             up = omega (arith, next);
-            from = omega (arith, h .from, is .at k l, rw (← add-one) at (total-next ls k next));
+            from = omega (arith, h .from, is .at k l, rw (← add-one) at (sum-next ls k next));
             sets-long = length-put sets k s ∙ h .sets-long;
             tops-long = length-set tops k top ∙ h .tops-long;
             sets-are = sets-more (λ j x. (i : ℕ) → mem x i ≡ (ltb i n && elem i (chunkAt (cut ls order) j))) sets k s (omega (arith, h .sets-long))

@@ -19,7 +19,7 @@ use Rattle.txset.proofs.Lists.{elem-append, elem-one, elem-head, without-append
 use Rattle.txset.proofs.Ranges.{count-le}
 use Rattle.txset.proofs.Bools.{and-left, and-right}
 use Rattle.feeset.specs.Scan.{ranksAbove}
-use Rattle.chunking.proofs.Theorems.{total}
+use Rattle.feefrac.proofs.Exact.{sumOf}
 use Rattle.candidates.proofs.Kept.{elem-below, left, left-less, once-none, After}
 use Rattle.output.specs.Output.{cut, chunkAt, chunkAbove, chunkReady, memberReady, inside, putOut, nextChunk, chunksOut}
 use Rattle.output.proofs.Kept.{Best, none-or-best, mayCome, may-ready, keeps-inside}
@@ -113,9 +113,9 @@ abbrev pub Parts : List (List ℕ) → List ℕ → Type 0
 Parts cs list = (k t : ℕ) → elem t (chunkAt cs k) ≡ true → Stands cs list k t
 
 -- where the lengths add up to the list's, each element is in a part
-pub cut-covers : (ls xs : List ℕ) → length xs ≤ total ls → (i : ℕ) → elem i xs ≡ true
+pub cut-covers : (ls xs : List ℕ) → length xs ≤ sumOf ls → (i : ℕ) → elem i xs ≡ true
     → (k : ℕ) × ((k < length ls) × (elem i (chunkAt (cut ls xs) k) ≡ true))
-unfolding cut total elem anyOf
+unfolding cut sumOf elem anyOf
 cut-covers [] [] h i e = clash e refl
 cut-covers [] (x ∷ xs) h i e = absurd (omega arith)
 cut-covers (l ∷ ls) xs h i e =

@@ -8,6 +8,7 @@ use lib.IntN.{ℤ}
 use borrow.Author.Tests.{not-true, eqb-true}
 use Rattle.feefrac.specs.declared.FeeFrac.{FeeFrac}
 use Rattle.feefrac.specs.Rate.{pick, higher, negated, rateAt}
+use Rattle.feefrac.proofs.Picks.{pick-where}
 use Rattle.txset.specs.Lists.{anyOf, elem, distinct}
 use Rattle.txset.proofs.Below.{clash}
 use Rattle.txset.proofs.Bools.{or-left, or-right}
@@ -56,11 +57,6 @@ pub parts-ordered : {dep : ℕ → ℕ → Bool} {xs ys : List ℕ} → Parts de
 parts-ordered {dep} {xs} {ys} p = ordered-append dep xs ys ∙ rw (p .front, p .back, p .apart)
 
 -- ---- one pass
-
--- what holds of each of two where it is the one picked holds of the one picked
-pick-where : {A : Type 0} (P : A → Type 0) (b : Bool) {x y : A} → (b ≡ true → P x) → (b ≡ false → P y) → P (pick b x y)
-pick-where P true p q = p refl
-pick-where P false p q = q refl
 
 -- a group that finds its place leaves the members as they are
 settle-any : (f : ℕ → Bool) (dep : ℕ → ℕ → Bool) (cur : Group) (gs : List Group) → anyOf f (flat (settle dep cur gs)) ≡ anyOf f (flat gs ++ cur .txs)

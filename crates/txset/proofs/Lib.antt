@@ -7,3 +7,4 @@ pub mod Joins
 pub mod Lists
 pub mod Ranges
 pub mod Bools
+pub mod Theorems
