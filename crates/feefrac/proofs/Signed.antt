@@ -254,13 +254,13 @@ down-abs (pos n) = omega arith
 down-abs (negsuc n) = omega arith
 
 -- a product that fits an i64, as the code makes it of locals
-module _ (z : ℤ) (k : ℕ) (hz : natAbs z ≤ 2147483648) (hk : k < 4294967296) where
+module _ (z : ℤ) (k : ℕ) (hz : natAbs z ≤ 34359738368) (hk : k < 268435456) where
   fits-plain : SFits w64 (z *ℤ pos k)
   fits-plain =
       in-range (z *ℤ pos k) (omega (arith, down-product z k, part (down z) (down-abs z))) (omega (arith, up-product z k, part (up z) (up-abs z)))
     where
-      part : (n : ℕ) → n ≤ natAbs z → n * k ≤ 9223372034707292160
-      part n h = mul-le-mul {n₂ = 2147483648} {m₂ = 4294967295} (omega arith) (omega arith)
+      part : (n : ℕ) → n ≤ natAbs z → n * k ≤ 9223372002495037440
+      part n h = mul-le-mul {n₂ = 34359738368} {m₂ = 268435455} (omega arith) (omega arith)
 
   plain : Z z *ℤ toZ w64 k ≡ z *ℤ pos k
   plain =

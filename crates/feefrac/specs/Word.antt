@@ -11,8 +11,8 @@ value w = 18446744073709551616 * w .hi + w .lo
 
 -- a product of one such fee and one such size fits an i64
 pub record Narrow (a : FeeFrac) : Type 0 where
-  pub fee : natAbs (a .fee) ≤ 2147483648
-  pub size : a .size < 4294967296
+  pub fee : natAbs (a .fee) ≤ 34359738368
+  pub size : a .size < 268435456
 
 -- "a sum below its addend means carry"
 abbrev pub Carry : ℕ → ℕ → ℕ → Type 0

@@ -1,5 +1,6 @@
 // The exact three-way compare of two feerates, the leaf below `higher_rate` and `rank`.
-// Fees and sizes of up to 32 bits are compared by one-word products; the rest by products of two words.
+// Fees of up to 35 bits and sizes of up to 28, which serves the sums of 64 of the heaviest transactions, are compared by one-word
+// products; the rest by products of two words.
 ghost use mathlib.Core.Path.{_≡_};
 ghost use mathlib.Core.Bool.{Bool, true};
 ghost use Prim.Native.Nat.{_+_, _*_, _<_};
@@ -30,13 +31,13 @@ fn is_narrow(a: FeeFrac) -> bool
     ensures { λ r. ⌜ (r ≡ true → Narrow a) ⌝ }
 {
     let fee = a.fee;
-    if fee < -2_147_483_648 {
+    if fee < -34_359_738_368 {
         return false;
     }
-    if 2_147_483_648 < fee {
+    if 34_359_738_368 < fee {
         return false;
     }
-    a.size < 4_294_967_296
+    a.size < 268_435_456
 }
 
 fn compare_narrow(a: FeeFrac, b: FeeFrac) -> Ordering

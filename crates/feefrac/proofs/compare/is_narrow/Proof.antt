@@ -21,9 +21,9 @@ returns-3 c e =
     let h : SFits w64 fee = search needs in
     record {
       fee =
-          abs-within fee 2147483648
-          (not-less (sfits-lit {z = pos 2147483648} tt) h (c .before .if2 .left))
-          (not-less h (sfits-lit {z = negsuc 2147483647} tt) (c .before .before .if1 .left));
+          abs-within fee 34359738368
+          (not-less (sfits-lit {z = pos 34359738368} tt) h (c .before .if2 .left))
+          (not-less h (sfits-lit {z = negsuc 34359738367} tt) (c .before .before .if1 .left));
       size = ltb-true _ _ e;
     }
 
