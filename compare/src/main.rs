@@ -1,0 +1,88 @@
+//! The library and the original side by side: comparison, benchmark, and tables for the gate.
+
+mod check;
+mod cluster;
+mod damage;
+mod exhaustive;
+mod expected;
+mod generate;
+mod measure;
+mod model;
+mod original;
+mod replay;
+mod rng;
+mod run;
+mod texts;
+mod worst;
+
+use std::path::Path;
+use std::process::ExitCode;
+
+const USAGE: &str = "\
+compare run [--seed S] [--clusters N]   compare the library with the original on good and bad inputs
+compare bench                           print a table of times
+compare worst [--seconds S]             search for the clusters with the smallest gain
+compare replay DIR                      write cases and answers, as stdin and stdout, to a folder
+compare texts DIR                       write the table of crates/cluster_texts to a folder";
+
+fn main() -> ExitCode {
+    let words: Vec<String> = std::env::args().skip(1).collect();
+    let words: Vec<&str> = words.iter().map(String::as_str).collect();
+    match perform(&words) {
+        Ok(()) => ExitCode::SUCCESS,
+        Err(text) => {
+            eprintln!("{text}");
+            ExitCode::FAILURE
+        }
+    }
+}
+
+fn perform(words: &[&str]) -> Result<(), String> {
+    match words {
+        ["run", options @ ..] => {
+            let [seed, clusters] = numbers(
+                options,
+                [("--seed", run::SEED), ("--clusters", run::CLUSTERS)],
+            )?;
+            run::run(seed, clusters)
+        }
+        ["bench"] => {
+            measure::bench();
+            Ok(())
+        }
+        ["worst", options @ ..] => {
+            let [seconds] = numbers(options, [("--seconds", 60)])?;
+            worst::worst(seconds);
+            Ok(())
+        }
+        ["replay", folder] => replay::write(Path::new(folder)),
+        ["texts", folder] => {
+            let told = texts::write_table(Path::new(folder));
+            told.map_err(|error| format!("{folder}: {error}"))
+        }
+        _ => Err(USAGE.to_string()),
+    }
+}
+
+/// The values of options that take a number, each with what it is by default.
+fn numbers<const N: usize>(
+    mut words: &[&str],
+    options: [(&str, u64); N],
+) -> Result<[u64; N], String> {
+    let mut values = options.map(|(_, usual)| usual);
+    while let [name, value, rest @ ..] = words {
+        let at = options
+            .iter()
+            .position(|option| option.0 == *name)
+            .ok_or(USAGE)?;
+        values[at] = value
+            .parse()
+            .map_err(|_| format!("{name} takes a number, not {value}"))?;
+        words = rest;
+    }
+    if words.is_empty() {
+        Ok(values)
+    } else {
+        Err(USAGE.to_string())
+    }
+}
