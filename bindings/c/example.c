@@ -37,7 +37,7 @@ static void print_chunks(const size_t *order, const size_t *lengths, size_t chun
 
 static int order_and_chunks(void)
 {
-    size_t order[COUNT(fees)];
+    size_t order[COUNT(fees)] = {0};
     yaghrudil_reply reply = yaghrudil_linearize(
         fees, COUNT(fees), sizes, COUNT(sizes), parents, COUNT(parents), order, COUNT(order));
     if (refused("linearize", reply))
@@ -53,7 +53,7 @@ static int order_and_chunks(void)
         ordered_fees[k] = fees[order[k]];
         ordered_sizes[k] = sizes[order[k]];
     }
-    size_t lengths[COUNT(fees)];
+    size_t lengths[COUNT(fees)] = {0};
     reply = yaghrudil_chunk_lengths(
         ordered_fees, COUNT(ordered_fees), ordered_sizes, COUNT(ordered_sizes), lengths, COUNT(lengths));
     if (refused("chunk_lengths", reply))

@@ -1,4 +1,4 @@
-//! Finds the archive of the library, or has the prover make it, and links it.
+//! Has the prover make the archive of the library, or takes one that is named, and links it.
 
 use std::env;
 use std::path::{Path, PathBuf};
@@ -39,11 +39,14 @@ fn of_repository() -> PathBuf {
     }
     let package = PathBuf::from(env::var_os("CARGO_MANIFEST_DIR").expect("cargo sets it"));
     let root = package.join("../..").canonicalize().expect("it is there");
-    let folder = root.join("target/staticlib");
-    if !folder.join(ARCHIVE).is_file() {
-        make_archive(&root);
-    }
-    folder
+    // cargo asks again where a crate changed, so that no older archive is linked
+    println!("cargo:rerun-if-changed={}", root.join("crates").display());
+    println!(
+        "cargo:rerun-if-changed={}",
+        root.join("crates.txt").display()
+    );
+    make_archive(&root);
+    root.join("target/staticlib")
 }
 
 fn make_archive(root: &Path) {
@@ -55,7 +58,7 @@ fn make_archive(root: &Path) {
         Ok(status) if status.success() => {}
         Ok(status) => stop(&format!("`rt staticlib yaghrudil` failed: {status}")),
         Err(error) => stop(&format!(
-            "there is no {ARCHIVE} yet, and `rt`, which makes it, does not start ({error}): \
+            "`rt`, which makes {ARCHIVE}, does not start ({error}): \
              put it on the PATH, or set YAGHRUDIL_LIB to a folder with the archive"
         )),
     }

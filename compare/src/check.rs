@@ -71,12 +71,23 @@ pub struct Tally {
 }
 
 impl Tally {
-    /// One call on both sides.
-    fn call(&mut self, original: &Original, call: Call) -> Result<(), String> {
+    /// One call on both sides; the number that both answer.
+    fn call(&mut self, original: &Original, call: Call) -> Result<u64, String> {
         let number =
             Difference::find(original, &call).map_err(|found| found.shrunk().to_string())?;
         self.answers[call.kind()][number as usize] += 1;
-        Ok(())
+        Ok(number)
+    }
+
+    /// A call that is not to be refused.
+    fn good(&mut self, original: &Original, call: Call) -> Result<(), String> {
+        match self.call(original, call)? {
+            0 => Ok(()),
+            number => Err(format!(
+                "{number} for a good cluster: {:?}",
+                original.cluster
+            )),
+        }
     }
 
     /// All calls on a cluster that is not to be refused: the order and its chunks, the chunks of the
@@ -89,12 +100,12 @@ impl Tally {
     ) -> Result<(), String> {
         let original = Original::new(cluster);
         let room = cluster.len() + spare;
-        self.call(&original, Call::Linearize { room })?;
+        self.good(&original, Call::Linearize { room })?;
         let listed = cluster.listed(original.order());
-        self.call(&Original::new(&listed), Call::ChunkLengths { room })?;
-        self.call(&original, Call::ChunkLengths { room })?;
+        self.good(&Original::new(&listed), Call::ChunkLengths { room })?;
+        self.good(&original, Call::ChunkLengths { room })?;
         for order in orders {
-            self.call(
+            self.good(
                 &original,
                 Call::PostLinearize {
                     order: order.clone(),

@@ -78,11 +78,13 @@ pub enum Numbers {
     Limits,
     ZeroFees,
     EqualRates,
+    Weights,
+    WordEnds,
     Mixed,
 }
 
 impl Numbers {
-    pub const ALL: [Numbers; 9] = [
+    pub const ALL: [Numbers; 11] = [
         Numbers::Ordinary,
         Numbers::FewValues,
         Numbers::ZeroSizes,
@@ -91,6 +93,8 @@ impl Numbers {
         Numbers::Limits,
         Numbers::ZeroFees,
         Numbers::EqualRates,
+        Numbers::Weights,
+        Numbers::WordEnds,
         Numbers::Mixed,
     ];
 
@@ -111,7 +115,9 @@ impl Numbers {
             Numbers::Limits => (huge_fee(rng), rng.pick(&[1, 2, 3, usual])),
             Numbers::ZeroFees => (rng.pick(&[0, 0, 0, 1]), rng.pick(&[0, 1, 1, usual])),
             Numbers::EqualRates => (rate * usual as i64, usual),
-            Numbers::Mixed => rng.pick(&Numbers::ALL[..8]).member(rate, rng),
+            Numbers::Weights => (rng.between(0, 1 << 40), 1 + rng.below(4_000_000)),
+            Numbers::WordEnds => (word_end_fee(rng), word_end_size(rng)),
+            Numbers::Mixed => rng.pick(&Numbers::ALL[..10]).member(rate, rng),
         }
     }
 }
@@ -120,6 +126,18 @@ impl Numbers {
 fn huge_fee(rng: &mut Rng) -> i64 {
     let near = HIGHEST - rng.between(0, 3);
     rng.pick(&[HIGHEST, -HIGHEST, near, -near, HIGHEST / 2, 0, 1, -1])
+}
+
+/// About the widest fee that the library compares by products of one word.
+fn word_end_fee(rng: &mut Rng) -> i64 {
+    let near = (1 << 35) + rng.between(-2, 2);
+    rng.pick(&[near, -near, near / 2, near - 1, 1])
+}
+
+/// The same of sizes.
+fn word_end_size(rng: &mut Rng) -> u64 {
+    let near = (1 << 28) + rng.below(5) - 2;
+    rng.pick(&[near, near / 2, near - 1, 1])
 }
 
 /// Such that a few of them reach the end of a u64, or one of them does.

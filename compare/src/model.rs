@@ -138,8 +138,9 @@ impl Model {
                     sums[i] = sums[i].minus(self.rates[gone]);
                 }
             }
-            out.sort_by_key(|&i| (self.ancestors[i].count_ones(), i));
-            order.extend(out);
+            // `out` stands by position, and a stable sort keeps that among equals
+            out.sort_by_key(|&i| self.ancestors[i].count_ones());
+            order.append(&mut out);
         }
         order
     }

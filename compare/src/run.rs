@@ -24,7 +24,7 @@ pub fn run(seed: u64, clusters: u64) -> Result<(), String> {
     let start = Instant::now();
     part("exhaustive", exhaustive::check)?;
     part("random", || random(seed, clusters))?;
-    part("damaged", || refusals(seed, clusters / 4))?;
+    part("damaged", || refusals(seed, 1 + clusters / 4))?;
     println!("no difference, in {:.0} s", start.elapsed().as_secs_f64());
     Ok(())
 }

@@ -1,8 +1,10 @@
 // The cluster program of document 01: reads a cluster from standard input and prints its order and chunks.
 ghost use mathlib.Core.Path.{_≡_};
 ghost use Prim.Native.Nat.{_≤_, _<_};
-ghost use lib.ListN.{length};
+ghost use mathlib.Core.Bool.{false};
+ghost use lib.ListN.{length, take};
 ghost use Rattle.cluster_input.specs.Lines.{longestText};
+ghost use Rattle.cluster_input.specs.Calls.{isDecided};
 ghost use Rattle.cluster_run.specs.Bounds.{Within};
 use libc::STDIN_FILENO;
 use libc::STDOUT_FILENO;
@@ -53,9 +55,11 @@ fn read_input(text: &mut [u8]) -> Got
     Got::Bytes(len)
 }
 
-// One read into the room behind the first `from` bytes: 0 bytes are the end of the input.
+// One read into the room behind the first `from` bytes: 0 bytes are the end of the input. It asks that these bytes leave the answer
+// open: "without reading on".
 fn read_more(text: &mut [u8], from: usize) -> Got
     requires { ⌜ from ≤ length (now text) ⌝ }
+    requires { ⌜ isDecided (take from (now text)) ≡ false ⌝ }
     ensures { λ r. ⌜ Within from (length (now (text .exit))) r ⌝ }
 {
     let got = libc::read(STDIN_FILENO, &mut text[from..]);
