@@ -17,7 +17,7 @@ use Rattle.feeset.specs.Scan.{scan, best, ranksAbove}
 use Rattle.candidates.specs.Candidates.{ancestorSum, remaining, candidate, remainingAncestors, fewerAncestors}
 use Rattle.candidates.specs.Candidates.{appendAncestors, appendFor, rounds}
 use Rattle.txset.proofs.Bools.{and-left, and-right, or-left, or-right}
-use Rattle.txset.proofs.Lists.{elem-append, elem-one, without-append}
+use Rattle.txset.proofs.Lists.{elem-append, elem-one, without-append, After}
 use Rattle.feeset.proofs.Scan.{best-elem}
 use Rattle.candidates.proofs.Rounds.{rounds-none}
 
@@ -238,11 +238,7 @@ best-least above key by (y ∷ ys) t e x m =
     go true p q = rw (eqb-true x y p) (scan-least above key by y ys .0)
     go false p q = scan-least above key by y ys .1 x q
 
--- each stands after its ancestors
-abbrev pub After : ℕ → (ℕ → ℕ → Bool) → List ℕ → Type 0
-After n anc out =
-    (xs ys : List ℕ) (i a : ℕ) → out ≡ xs ++ (i ∷ ys) → a < n → anc i a ≡ true → (a ≡ i → ⊥) → elem a xs ≡ true
-
+-- each stands after its ancestors where there is none
 pub after-none : (n : ℕ) (anc : ℕ → ℕ → Bool) → After n anc []
 after-none n anc xs ys i a e l p q = let z : length (xs ++ (i ∷ ys)) ≡ 0 = ap length (sym e) in absurd (omega (arith, length-append xs (i ∷ ys)))
 

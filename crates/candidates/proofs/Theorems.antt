@@ -3,7 +3,7 @@
 use mathlib.Core.Path.{_≡_, refl, sym, ap, ap₂, _∙_}
 use mathlib.Core.Bool.{Bool, true, false, not, _&&_, _||_, and-true}
 use mathlib.Core.List.{List, [], _∷_, _++_}
-use Prim.Native.Nat.{ℕ, suc, _+_, _-_, _*_, _≤_, _<_}
+use Prim.Native.Nat.{ℕ, suc, _+_, _-_, _≤_, _<_}
 use native.Mathlib.Omega.{arith}
 use lib.Dec.{eqb}
 use lib.IntN.{ℤ, pos, natAbs, negℤ, _+ℤ_, _-ℤ_, +ℤ-idl, +ℤ-idr, +ℤ-assoc, +ℤ-comm, negℤ-+ℤ, +ℤ-negℤ-cancel}
@@ -11,17 +11,17 @@ use lib.ListN.{length, getD}
 use borrow.Author.Tests.{not-true, not-false, eqb-true}
 use Rattle.feefrac.specs.declared.FeeFrac.{FeeFrac}
 use Rattle.feefrac.specs.Rate.{pick, heldSize, difference, rateAt}
-use Rattle.feefrac.proofs.Exact.{difference-exact, abs-difference, abs-exact, exactSum, spread, feeLimit, Within, within-at, sumOf}
+use Rattle.feefrac.proofs.Exact.{difference-exact, abs-difference, abs-exact, exactSum, spread, Within, sumOf}
 use Rattle.txset.specs.Below.{keepIf, countFrom, listFrom}
 use Rattle.txset.specs.Lists.{anyOf, elem, distinct}
 use Rattle.txset.proofs.Below.{elem-in, count-list, list-ext, list-with, list-without}
 use Rattle.txset.proofs.Bools.{and-left, and-right}
-use Rattle.txset.proofs.Lists.{elem-head, elem-tail}
+use Rattle.txset.proofs.Lists.{elem-head, elem-tail, After}
 use Rattle.txset.proofs.Ranges.{count-le}
 use Rattle.feeset.specs.Total.{total}
-use Rattle.feeset.proofs.Exact.{feesAt, sizesAt, total-fee, total-size}
+use Rattle.feeset.proofs.Exact.{feesAt, sizesAt, at-spread, total-fee, total-size}
 use Rattle.candidates.specs.Candidates.{givenBack, ancestorSum, remaining, remainingAncestors, rounds, ancestorOrder}
-use Rattle.candidates.proofs.Kept.{left, next-fresh, keeps-rounds, Once, once-none, once-more, rounds-all, After, after-none, after-more}
+use Rattle.candidates.proofs.Kept.{left, next-fresh, keeps-rounds, Once, once-none, once-more, rounds-all, after-none, after-more}
 
 module _ (fs : List ℤ) (ss : List ℕ) (anc : ℕ → ℕ → Bool) where
   taken : Once (length fs) (ancestorOrder fs ss anc)
@@ -226,11 +226,6 @@ module _
       (anc i) n out once below
 
   module _ (few : n ≤ 64) (within : Within fs) where
-    far : (is : List ℕ) → spread (feesAt fs is) ≤ feeLimit * length is
-    unfolding spread
-    far [] = omega arith
-    far (t ∷ ts) = omega (arith, within-at fs within t, far ts)
-
     few-ancestors : length ancestors ≤ 64
     unfolding ancestors
     few-ancestors = omega (arith, count-le (anc i) n 0, count-list (anc i) n 0)
@@ -242,7 +237,7 @@ module _
     sum-fee =
         let e : total fs ss ancestors .fee ≡ exactSum (feesAt fs ancestors) = total-fee fs ss within ancestors few-ancestors in
         back-fee fs ss (anc i) (total fs ss ancestors) out
-        (omega (arith, ap natAbs e, abs-exact (feesAt fs ancestors), far-parts, far ancestors, few-ancestors))
+        (omega (arith, ap natAbs e, abs-exact (feesAt fs ancestors), far-parts, at-spread fs ss within ancestors, few-ancestors))
         ∙ ap (λ (z : ℤ). z -ℤ exactSum (feesAt fs gone)) e
 
     -- so it is the exact sum of the fees of the ancestors that are left

@@ -129,6 +129,47 @@ pub cut-falls : (rs : List FeeFrac) → falling (chunksAfter [] rs) ≡ true
 unfolding falling
 cut-falls rs = after-keeps (λ (cs : List Chunk). falling cs ≡ true) (λ r cs e. falling-swallow (alone r) cs e) rs [] refl
 
+-- ---- each chunk has a property with its own members
+
+-- the members are those of the chunks, one after the other, the last chunk's last, and each chunk has the property with its own
+unfoldable pub CutBy : (Chunk → List FeeFrac → Type 0) → List FeeFrac → List Chunk → Type 0
+CutBy P rs [] = rs ≡ []
+CutBy P rs (c ∷ cs) = (front : List FeeFrac) × (own : List FeeFrac) × (rs ≡ front ++ own) × P c own × CutBy P front cs
+
+-- a property that one member alone has, and two chunks joined, in a list with Q, which the list's parts have too
+module _
+    (P : Chunk → List FeeFrac → Type 0)
+    (Q : List FeeFrac → Type 0)
+    (in-front : (xs ys : List FeeFrac) → Q (xs ++ ys) → Q xs)
+    (in-back : (xs ys : List FeeFrac) → Q (xs ++ ys) → Q ys)
+    (one : (r : FeeFrac) → Q (r ∷ []) → P (alone r) (r ∷ []))
+    (two : (c t : Chunk) (xs ys : List FeeFrac) → Q (xs ++ ys) → P c ys → P t xs → P (joined c t) (xs ++ ys)) where
+  cut-swallow : (c : Chunk) (cs : List Chunk) (front own : List FeeFrac) → Q (front ++ own) → P c own → CutBy P front cs
+      → CutBy P (front ++ own) (swallow c cs)
+  unfolding CutBy swallow
+  cut-swallow c [] front own h p k = (front, own, refl, p, k)
+  cut-swallow c (t ∷ ts) front own h p k =
+      let e : front ++ own ≡ k .0 ++ (k .1 ++ own) = ap (λ (l : List FeeFrac). l ++ own) (k .2) ∙ append-assoc (k .0) (k .1) own in
+      let q : Q (k .0 ++ (k .1 ++ own)) = rw e at h in
+      pick-where (CutBy P (front ++ own)) (higher (c .rate) (t .rate))
+      (λ _. rw e (cut-swallow (joined c t) ts (k .0) (k .1 ++ own) q (two c t (k .1) own (in-back (k .0) (k .1 ++ own) q) p (k .3)) (k .4)))
+      (λ _. (front, own, refl, p, k))
+
+  cut-after : (rs front : List FeeFrac) (cs : List Chunk) → Q (front ++ rs) → CutBy P front cs → CutBy P (front ++ rs) (chunksAfter cs rs)
+  unfolding chunksAfter
+  cut-after [] front cs h k = rw (append-nil front) k
+  cut-after (r ∷ rs) front cs h k =
+      let q : Q ((front ++ (r ∷ [])) ++ rs) = rw (append-assoc front (r ∷ []) rs) h in
+      let f : Q (front ++ (r ∷ [])) = in-front (front ++ (r ∷ [])) rs q in
+      rw (append-assoc front (r ∷ []) rs) at
+      (cut-after rs (front ++ (r ∷ [])) (swallow (alone r) cs) q
+      (cut-swallow (alone r) cs front (r ∷ []) f (one r (in-back front (r ∷ []) f)) k))
+
+  -- so each chunk of the list has it
+  pub cut-chunks : (rs : List FeeFrac) → Q rs → CutBy P rs (chunksAfter [] rs)
+  unfolding CutBy
+  cut-chunks rs h = cut-after rs [] [] h refl
+
 -- ---- each chunk has the exact sum of its members' fees
 
 abbrev pub feesOf : List FeeFrac → List ℤ
@@ -139,10 +180,9 @@ pub record Has (c : Chunk) (own : List FeeFrac) : Type 0 where
   pub len : c .len ≡ length own
   pub fee : c .rate .fee ≡ exactSum (feesOf own)
 
--- the members are those of the chunks, one after the other, the last chunk's last
-unfoldable pub CutInto : List FeeFrac → List Chunk → Type 0
-CutInto rs [] = rs ≡ []
-CutInto rs (c ∷ cs) = (front : List FeeFrac) × (own : List FeeFrac) × (rs ≡ front ++ own) × Has c own × CutInto front cs
+-- each chunk is that of its own
+abbrev pub CutInto : List FeeFrac → List Chunk → Type 0
+CutInto rs cs = CutBy Has rs cs
 
 fees-append : (xs ys : List FeeFrac) → feesOf (xs ++ ys) ≡ feesOf xs ++ feesOf ys
 fees-append xs ys = map-append (λ r. r .fee) xs ys
@@ -169,33 +209,11 @@ exact-joined c t xs ys h p q =
           ∙ sym (ap exactSum (fees-append xs ys) ∙ exact-append (feesOf xs) (feesOf ys));
     }
 
-exact-swallow : (c : Chunk) (cs : List Chunk) (front own : List FeeFrac) → far front + far own < 9223372036854775808
-    → Has c own → CutInto front cs → CutInto (front ++ own) (swallow c cs)
-unfolding CutInto swallow
-exact-swallow c [] front own h p k = (front, own, refl, p, k)
-exact-swallow c (t ∷ ts) front own h p k =
-    pick-where (CutInto (front ++ own)) (higher (c .rate) (t .rate))
-    (λ _.
-    rw (k .2, append-assoc (k .0) (k .1) own)
-    (exact-swallow (joined c t) ts (k .0) (k .1 ++ own)
-    (omega (arith, far-append (k .1) own, far-append (k .0) (k .1), ap far (k .2)))
-    (exact-joined c t (k .1) own (omega (arith, far-append (k .0) (k .1), ap far (k .2))) p (k .3))
-    (k .4)))
-    (λ _. (front, own, refl, p, k))
-
-exact-after : (rs front : List FeeFrac) (cs : List Chunk) → far front + far rs < 9223372036854775808 → CutInto front cs
-    → CutInto (front ++ rs) (chunksAfter cs rs)
-unfolding chunksAfter spread
-exact-after [] front cs h k = rw (append-nil front) k
-exact-after (r ∷ rs) front cs h k =
-    rw (append-assoc front (r ∷ []) rs) at
-    (exact-after rs (front ++ (r ∷ [])) (swallow (alone r) cs) (omega (arith, far-append front (r ∷ [])))
-    (exact-swallow (alone r) cs front (r ∷ []) (omega arith) (exact-alone r) k))
-
 -- where the fees, signs aside, stay below 2^63 together
 pub chunks-exact : (rs : List FeeFrac) → spread (feesOf rs) < 9223372036854775808 → CutInto rs (chunksAfter [] rs)
-unfolding CutInto spread
-chunks-exact rs h = exact-after rs [] [] (omega arith) refl
+chunks-exact rs h =
+    cut-chunks Has (λ l. far l < 9223372036854775808) (λ xs ys q. omega (arith, far-append xs ys)) (λ xs ys q. omega (arith, far-append xs ys))
+    (λ r _. exact-alone r) (λ c t xs ys q. exact-joined c t xs ys (omega (arith, far-append xs ys))) rs h
 
 -- so it is for at most 64 members with fees within the limit
 pub chunks-within : (rs : List FeeFrac) → length rs ≤ 64 → Within (feesOf rs) → CutInto rs (chunksAfter [] rs)
@@ -221,11 +239,6 @@ pub record Sized (c : Chunk) (own : List FeeFrac) : Type 0 where
   pub len : c .len ≡ length own
   pub size : c .rate .size ≡ heldSize (sumOf (sizesOf own))
 
--- the members are those of the chunks, one after the other, the last chunk's last, and each chunk has the property with its own
-unfoldable pub CutBy : (Chunk → List FeeFrac → Type 0) → List FeeFrac → List Chunk → Type 0
-CutBy P rs [] = rs ≡ []
-CutBy P rs (c ∷ cs) = (front : List FeeFrac) × (own : List FeeFrac) × (rs ≡ front ++ own) × P c own × CutBy P front cs
-
 sized-alone : (r : FeeFrac) → r .size < 2 ^ 64 → Sized (alone r) (r ∷ [])
 unfolding sumOf
 sized-alone r h = record { len = refl; size = omega arith }
@@ -237,28 +250,19 @@ sized-joined c t xs ys p q =
     ap sumOf (map-append (λ r. r .size) xs ys) ∙ sumOf-append (sizesOf xs) (sizesOf ys) in
     record { len = omega (arith, length-append xs ys, p .len, q .len); size = omega (arith, p .size, q .size) }
 
-sized-swallow : (c : Chunk) (cs : List Chunk) (front own : List FeeFrac) → Sized c own → CutBy Sized front cs → CutBy Sized (front ++ own) (swallow c cs)
-unfolding CutBy swallow
-sized-swallow c [] front own p k = (front, own, refl, p, k)
-sized-swallow c (t ∷ ts) front own p k =
-    pick-where (CutBy Sized (front ++ own)) (higher (c .rate) (t .rate))
-    (λ _.
-    rw (k .2, append-assoc (k .0) (k .1) own)
-    (sized-swallow (joined c t) ts (k .0) (k .1 ++ own) (sized-joined c t (k .1) own p (k .3)) (k .4)))
-    (λ _. (front, own, refl, p, k))
+fits-front : (xs ys : List FeeFrac) → Fits (sizesOf (xs ++ ys)) → Fits (sizesOf xs)
+fits-front [] ys h j = lit< tt
+fits-front (x ∷ xs) ys h zero = h 0
+fits-front (x ∷ xs) ys h (suc j) = fits-front xs ys (λ i. h (suc i)) j
 
-sized-after : (rs front : List FeeFrac) (cs : List Chunk) → Fits (sizesOf rs) → CutBy Sized front cs → CutBy Sized (front ++ rs) (chunksAfter cs rs)
-unfolding chunksAfter
-sized-after [] front cs h k = rw (append-nil front) k
-sized-after (r ∷ rs) front cs h k =
-    rw (append-assoc front (r ∷ []) rs) at
-    (sized-after rs (front ++ (r ∷ [])) (swallow (alone r) cs) (λ j. h (suc j))
-    (sized-swallow (alone r) cs front (r ∷ []) (sized-alone r (h 0)) k))
+fits-back : (xs ys : List FeeFrac) → Fits (sizesOf (xs ++ ys)) → Fits (sizesOf ys)
+fits-back [] ys h = h
+fits-back (x ∷ xs) ys h = fits-back xs ys (λ j. h (suc j))
 
 -- for any fees, and sizes that are below 2^64 each, as those of a machine are
 pub chunks-sized : (rs : List FeeFrac) → Fits (sizesOf rs) → CutBy Sized rs (chunksAfter [] rs)
-unfolding CutBy
-chunks-sized rs h = sized-after rs [] [] h refl
+chunks-sized rs h =
+    cut-chunks Sized (λ l. Fits (sizesOf l)) fits-front fits-back (λ r q. sized-alone r (q 0)) (λ c t xs ys _. sized-joined c t xs ys) rs h
 
 rates-fit : (fs : List ℤ) (ss : List ℕ) → Fits ss → Fits (sizesOf (rates fs ss))
 unfolding rates
@@ -281,7 +285,7 @@ pub record Sums (c : Chunk) (own : List FeeFrac) : Type 0 where
 
 -- two cuts of one list into chunks of the same lengths are one cut
 sums-both : (rs qs : List FeeFrac) (cs : List Chunk) → rs ≡ qs → CutInto rs cs → CutBy Sized qs cs → CutBy Sums rs cs
-unfolding CutInto CutBy
+unfolding CutBy
 sums-both rs qs [] q j k = j
 sums-both rs qs (c ∷ cs) q j k =
     let e : j .0 ++ j .1 ≡ k .0 ++ k .1 = sym (j .2) ∙ q ∙ k .2 in

@@ -1,4 +1,4 @@
-// Module 4 of document 01: chunk_lengths. A later group joins the one before it only at a strictly higher feerate.
+// Module 4 of document 01: chunk_lengths. Each member starts a chunk, which swallows those before it while its feerate is strictly higher.
 ghost use mathlib.Core.Path.{_≡_};
 ghost use mathlib.Core.List.{_++_};
 ghost use Prim.Native.Nat.{_≤_};

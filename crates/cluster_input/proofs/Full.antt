@@ -14,7 +14,7 @@ use Rattle.cluster_input.specs.Lines.{behind, longestLine, longestText, 
 use Rattle.cluster_input.specs.Reading.{feeKey, sizeKey, parentsKey, isNumber, isFee, parts, areNumbers}
 use Rattle.cluster_input.specs.Reading.{isMember, memberFee, memberSize, memberParents, nextMember, Read, refused, members, read}
 use Rattle.cluster_input.specs.Steps.{firstOf}
-use Rattle.cluster_input.proofs.Picks.{both}
+use Rattle.txset.proofs.Bools.{and-both}
 use Rattle.cluster_input.proofs.Places.{field-passes}
 use Rattle.cluster_input.proofs.Reading.{read-count}
 
@@ -24,11 +24,11 @@ unfolding isMember
 member-passes xs e =
     let size = behind 10 xs in
     let parents = behind 10 size in
-    let p = both (isField feeKey xs && isFee (feeOf (valueOf feeKey xs))) _ e in
-    let q = both (isField sizeKey size && isNumber (numberOf (valueOf sizeKey size))) _ (p .1) in
-    let a = field-passes feeKey xs (both (isField feeKey xs) _ (p .0) .0) in
-    let b = field-passes sizeKey size (both (isField sizeKey size) _ (q .0) .0) in
-    let c = field-passes parentsKey parents (both (isField parentsKey parents) _ (q .1) .0) in
+    let p = and-both (isField feeKey xs && isFee (feeOf (valueOf feeKey xs))) _ e in
+    let q = and-both (isField sizeKey size && isNumber (numberOf (valueOf sizeKey size))) _ (p .1) in
+    let a = field-passes feeKey xs (and-both (isField feeKey xs) _ (p .0) .0) in
+    let b = field-passes sizeKey size (and-both (isField sizeKey size) _ (q .0) .0) in
+    let c = field-passes parentsKey parents (and-both (isField parentsKey parents) _ (q .1) .0) in
     omega arith
 
 -- so where more stands there than k members can have, something is behind them, or one of them is not of its form

@@ -1,7 +1,6 @@
 -- Which way a `pick` went, by what it gave. Assumes nothing.
-use mathlib.Core.Path.{_≡_, refl, sym, subst}
-use mathlib.Core.Bool.{Bool, true, false, _&&_}
-use lib.Dec.{T}
+use mathlib.Core.Path.{_≡_, refl}
+use mathlib.Core.Bool.{Bool, true, false}
 use Rattle.feefrac.specs.Rate.{pick}
 
 module _ {A : Type 0} {x y z : A} where
@@ -14,8 +13,3 @@ module _ {A : Type 0} {x y z : A} where
   pub second : (b : Bool) → pick b x y ≡ z → (x ≡ z → ⊥) → (b ≡ false) × (y ≡ z)
   second true e n = absurd (n e)
   second false e n = (refl, e)
-
--- both parts of a conjunction that holds
-pub both : (b c : Bool) → (b && c) ≡ true → (b ≡ true) × (c ≡ true)
-both true c e = (refl, e)
-both false c e = absurd (subst T (sym e) tt)

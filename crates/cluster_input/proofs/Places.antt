@@ -12,12 +12,13 @@ use lib.Seq.{drop-cons, drop-drop, take-nil}
 use borrow.Author.Tests.{le-leb, lt-leb, lt-ltb, le-ltb, eq-eqb, ne-eqb, ltb-true, leb-true}
 use Rattle.feefrac.specs.Rate.{pick}
 use Rattle.txset.proofs.Below.{clash}
+use Rattle.txset.proofs.Bools.{and-both}
 use Rattle.cluster_input.specs.declared.lines.Line.the-variants.{Ends, Malformed}
 use Rattle.cluster_input.specs.declared.lines.Value.the-variants as value
 use Rattle.cluster_input.specs.declared.lines.Span.{Span}
 use Rattle.cluster_input.specs.Lines.{before, behind, isLine, longestLine, starts, isField, valueOf}
 use Rattle.cluster_input.specs.Steps.{placeOf, lineAt, fieldAt, hasEnd}
-use Rattle.cluster_input.proofs.Picks.{first, second, both}
+use Rattle.cluster_input.proofs.Picks.{first, second}
 
 -- ---- the place of a byte
 
@@ -68,18 +69,18 @@ module _ (text : List ℕ) (from : ℕ) (within : from ≤ length text) where
 pub line-inside : (xs : List ℕ) → isLine xs ≡ true → length (before 10 xs) < length xs
 unfolding isLine
 line-inside xs e =
-    ltb-true (length (before 10 xs)) (length xs) (both (ltb (length (before 10 xs)) (length xs)) (leb (length (before 10 xs)) 1024) e .0)
+    ltb-true (length (before 10 xs)) (length xs) (and-both (ltb (length (before 10 xs)) (length xs)) (leb (length (before 10 xs)) 1024) e .0)
 
 pub field-inside : (key xs : List ℕ) → isField key xs ≡ true → length (before 10 xs) < length xs
 unfolding isField
-field-inside key xs e = line-inside xs (both (isLine xs) (starts key (before 10 xs)) e .0)
+field-inside key xs e = line-inside xs (and-both (isLine xs) (starts key (before 10 xs)) e .0)
 
 -- it has at most 1,024 bytes before the newline, so little is passed with it
 pub field-short : (key xs : List ℕ) → isField key xs ≡ true → length (before 10 xs) ≤ 1024
 unfolding isField isLine
 field-short key xs e =
-    let l = both (isLine xs) (starts key (before 10 xs)) e .0 in
-    leb-true (length (before 10 xs)) 1024 (both (ltb (length (before 10 xs)) (length xs)) (leb (length (before 10 xs)) 1024) l .1)
+    let l = and-both (isLine xs) (starts key (before 10 xs)) e .0 in
+    leb-true (length (before 10 xs)) 1024 (and-both (ltb (length (before 10 xs)) (length xs)) (leb (length (before 10 xs)) 1024) l .1)
 
 pub field-passes : (key xs : List ℕ) → isField key xs ≡ true → length xs ≤ longestLine + length (behind 10 xs)
 unfolding behind
@@ -116,7 +117,7 @@ starts-length : (key line : List ℕ) → starts key line ≡ true → length ke
 unfolding starts
 starts-length [] line e = omega arith
 starts-length (k ∷ ks) [] e = clash {b = false} e refl
-starts-length (k ∷ ks) (x ∷ xs) e = omega (arith, starts-length ks xs (both (eqb x k) (starts ks xs) e .1))
+starts-length (k ∷ ks) (x ∷ xs) e = omega (arith, starts-length ks xs (and-both (eqb x k) (starts ks xs) e .1))
 
 -- ---- parts of a text
 
@@ -212,7 +213,7 @@ module _ (key text : List ℕ) (from : ℕ) {xs : List ℕ} (here : drop from te
       let q : record { start = from + length key; end = placeOf 10 text from } ≡ s = cc in
       let st : from + length key ≡ s .start = ap (λ (t : Span). t .start) q in
       let en : placeOf 10 text from ≡ s .end = ap (λ (t : Span). t .end) q in
-      let k = starts-length key (before 10 (drop from text)) (both (isLine (drop from text)) (starts key (before 10 (drop from text))) (p .0) .1) in
+      let k = starts-length key (before 10 (drop from text)) (and-both (isLine (drop from text)) (starts key (before 10 (drop from text))) (p .0) .1) in
       record {
         field = ap (isField key) (sym here) ∙ p .0;
         at = sym en;

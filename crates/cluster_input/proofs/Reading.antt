@@ -15,6 +15,7 @@ use borrow.Author.Tests.{lt-ltb, le-ltb, ltb-true, ltb-false}
 use Rattle.feefrac.specs.Rate.{pick}
 use Rattle.txset.specs.Sets.{positions}
 use Rattle.txset.proofs.Below.{lt-or-ge}
+use Rattle.txset.proofs.Bools.{and-both}
 use Rattle.txset.specs.declared.TxSet.{TxSet}
 use Rattle.cluster_input.specs.declared.numerals.Number.the-variants as number
 use Rattle.cluster_input.specs.declared.numerals.Fee.the-variants as fee
@@ -32,7 +33,7 @@ use Rattle.cluster_input.specs.Reading.{nKey, feeKey, sizeKey, parentsKe
 use Rattle.cluster_input.specs.Reading.{isMember, memberFee, memberSize, memberParents, nextMember, Read, refused, cluster, members, read}
 use Rattle.cluster_input.specs.Calls.{inputOf, feesAfter, sizesAfter, parentsAfter, Decided, isDecided}
 use Rattle.cluster_input.specs.Steps.{nextLine, hasEnd, firstOf, memberAt, parentsIn}
-use Rattle.cluster_input.proofs.Picks.{first, second, both}
+use Rattle.cluster_input.proofs.Picks.{first, second}
 use Rattle.cluster_input.proofs.Places.{Field, field-inside, field-short, place-behind, goes-on, too-long}
 
 -- ---- the first line
@@ -135,8 +136,8 @@ module _ (text : List ℕ) (from : ℕ) where
   last-inside e =
       let at = nextLine text (nextLine text from) in
       let here : drop at text ≡ parentsLine text from = place-behind 10 text (nextLine text from) ∙ ap (behind 10) (place-behind 10 text from) in
-      let p = both (sizeTest text from) (parentsTest text from) (both (feeTest text from) (sizeTest text from && parentsTest text from) e .1) .1 in
-      let f = both (isField parentsKey (parentsLine text from)) (areNumbers (parts (valueOf parentsKey (parentsLine text from)))) p .0 in
+      let p = and-both (sizeTest text from) (parentsTest text from) (and-both (feeTest text from) (sizeTest text from && parentsTest text from) e .1) .1 in
+      let f = and-both (isField parentsKey (parentsLine text from)) (areNumbers (parts (valueOf parentsKey (parentsLine text from)))) p .0 in
       omega (arith, field-inside parentsKey (drop at text) (ap (isField parentsKey) here ∙ f), length-drop at text)
 
   pub member-lines : (m : MemberLines) → memberAt text from ≡ member.Read m → Lines (drop from text) text m
@@ -282,7 +283,7 @@ module _ (text : List ℕ) where
   unfolding firstOf
   whole h n =
       let p = first isFirst h n in
-      record { form = p .0; says = p .1; ends = field-inside nKey text (both (isField nKey text) (isNumber (numberOf (valueOf nKey text))) (p .0) .0) }
+      record { form = p .0; says = p .1; ends = field-inside nKey text (and-both (isField nKey text) (isNumber (numberOf (valueOf nKey text))) (p .0) .0) }
 
   whole-many : firstOf text ≡ count.TooMany → Whole count.TooMany
   whole-many h = whole h (λ e. let z : _≡_ {A = ℕ} 0 1 = cc in omega arith)
@@ -315,7 +316,7 @@ module _ (text : List ℕ) where
             (ap (λ (xs : List ℕ). members (l .n) xs [] [] []) (sym (ap (λ (m : ℕ). drop m text) (sym k) ∙ place-behind 10 text 0)));
         few = omega (arith, ltb-false positions (numberIn (numberOf (valueOf nKey text))) (b .0));
         inside = omega (arith, w .ends);
-        near = omega (arith, field-short nKey text (both (isField nKey text) (isNumber (numberOf (valueOf nKey text))) (w .form) .0));
+        near = omega (arith, field-short nKey text (and-both (isField nKey text) (isNumber (numberOf (valueOf nKey text))) (w .form) .0));
         ends = w .ends;
       }
 

@@ -13,6 +13,7 @@ use borrow.Author.Tests.{lt-ltb, leb-true, ltb-true, eqb-true, eqb-false, not-tr
 use Rattle.feefrac.specs.Rate.{pick}
 use Rattle.txset.specs.Lists.{allOf}
 use Rattle.txset.proofs.Below.{clash, lt-or-ge}
+use Rattle.txset.proofs.Bools.{and-both}
 use Rattle.cluster_input.specs.declared.numerals.Number.{Number}
 use Rattle.cluster_input.specs.declared.numerals.Number.the-variants.{Value, Malformed}
 use Rattle.cluster_input.specs.declared.numerals.Fee.the-variants.{Sats}
@@ -23,7 +24,7 @@ use Rattle.cluster_input.specs.Lines.{before, longestText}
 use Rattle.cluster_input.specs.Reading.{read}
 use Rattle.cluster_input.specs.Steps.{hasEnd, firstOf}
 use Rattle.cluster_input.specs.Calls.{Decided}
-use Rattle.cluster_input.proofs.Picks.{first, both}
+use Rattle.cluster_input.proofs.Picks.{first}
 use Rattle.cluster_input.proofs.Reading.{read-count, first-goes-on, many-decided, malformed-decided}
 use Rattle.cluster_input.proofs.Full.{count-full}
 
@@ -36,8 +37,8 @@ record Digits (d : ℕ) (ds : List ℕ) : Type 0 where
 digits : (d : ℕ) (ds : List ℕ) → allOf isDigit (d ∷ ds) ≡ true → Digits d ds
 unfolding allOf
 digits d ds e =
-    let p = both (isDigit d) (allOf isDigit ds) e in
-    let q = both (leb 48 d) (leb d 57) (p .0) in
+    let p = and-both (isDigit d) (allOf isDigit ds) e in
+    let q = and-both (leb 48 d) (leb d 57) (p .0) in
     record { low = leb-true 48 d (q .0); high = leb-true d 57 (q .1); rest = p .1 }
 
 -- equally many digits, of the same value: then they are the same, and so is what stood before them
@@ -74,9 +75,9 @@ record Plain (d : ℕ) (ds : List ℕ) : Type 0 where
 
 plain : (d : ℕ) (ds : List ℕ) → isPlain (d ∷ ds) ≡ true → Plain d ds
 unfolding isPlain
-plain d [] e = record { all = both (allOf isDigit (d ∷ [])) (not (eqb d 48) || true) e .0; lead = λ l. absurd (omega arith) }
+plain d [] e = record { all = and-both (allOf isDigit (d ∷ [])) (not (eqb d 48) || true) e .0; lead = λ l. absurd (omega arith) }
 plain d (x ∷ ds) e =
-    let p = both (allOf isDigit (d ∷ x ∷ ds)) (not (eqb d 48) || false) e in
+    let p = and-both (allOf isDigit (d ∷ x ∷ ds)) (not (eqb d 48) || false) e in
     let n = eqb-false d 48 (not-true (eqb d 48) (sym (or-false (not (eqb d 48))) ∙ p .1)) in
     record { all = p .0; lead = λ l. omega (arith, digits d (x ∷ ds) (p .0) .low, n) }
 
@@ -106,7 +107,7 @@ number-unique ds es v p q =
     let a = first (isPlain ds && leb (valueFrom 0 ds) 18446744073709551615) p (λ e. let z : _≡_ {A = ℕ} 0 1 = cc in omega arith) in
     let b = first (isPlain es && leb (valueFrom 0 es) 18446744073709551615) q (λ e. let z : _≡_ {A = ℕ} 0 1 = cc in omega arith) in
     let same : valueFrom 0 ds ≡ valueFrom 0 es = cc in
-    plain-unique ds es (both (isPlain ds) _ (a .0) .0) (both (isPlain es) _ (b .0) .0) same
+    plain-unique ds es (and-both (isPlain ds) _ (a .0) .0) (and-both (isPlain es) _ (b .0) .0) same
 
 -- a fee's text: a minus sign and a number that is not zero, or a number
 record Minus (text : List ℕ) (z : ℤ) : Type 0 where
@@ -131,7 +132,7 @@ spelt (b ∷ bs) z e = go (eqb b 45) refl e
     below Malformed r q e = let n : _≡_ {A = ℕ} 0 1 = cc in absurd (omega arith)
     below (Value v) r q e =
         let p = first (ltb 0 v && leb v 9223372036854775808) e (λ e. let n : _≡_ {A = ℕ} 0 1 = cc in omega arith) in
-        record { rest = bs; size = v; is = ap (λ (x : ℕ). x ∷ bs) q; read = r; some = ltb-true 0 v (both (ltb 0 v) _ (p .0) .0); gives = cc }
+        record { rest = bs; size = v; is = ap (λ (x : ℕ). x ∷ bs) q; read = r; some = ltb-true 0 v (and-both (ltb 0 v) _ (p .0) .0); gives = cc }
 
     above : (n : Number) → numberOf (b ∷ bs) ≡ n → positive n ≡ Sats z → NoMinus (b ∷ bs) z
     above Malformed r e = let n : _≡_ {A = ℕ} 0 1 = cc in absurd (omega arith)

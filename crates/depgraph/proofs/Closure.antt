@@ -15,6 +15,7 @@ use Rattle.txset.specs.Below.{anyFrom}
 use Rattle.txset.specs.Sets.{positions, isPosition, mem, setAt, putAt, Joined}
 use Rattle.txset.proofs.Below.{by-position, below-here, below-else}
 use Rattle.txset.proofs.Sets.{mem-position, length-put, put-at, put-else, at-zeros}
+use Rattle.txset.proofs.Lists.{flip}
 use Rattle.txset.proofs.Joins.{joined-at, turned-more}
 use Rattle.depgraph.specs.declared.DepGraph.{DepGraph}
 use Rattle.depgraph.specs.Closed.{Closed}
@@ -22,10 +23,6 @@ use Rattle.depgraph.specs.Graph.{isParent, reach, isAbove, isAncestor, i
 use Rattle.depgraph.specs.Steps.{Holds, nothing}
 use Rattle.depgraph.proofs.Counts.{any-more}
 use Rattle.depgraph.proofs.Reach.{asked, parent-asked, above-both}
-
-eqb-sym : (a b : ℕ) → eqb a b ≡ eqb b a
-eqb-sym a b =
-    by-position (λ a. eqb a b ≡ eqb b a) b refl (λ a n. ne-eqb a b (λ e. n (sym e)) ∙ sym (ne-eqb b a n)) a
 
 -- the sets hold any relation that agrees
 pub holds-as : {f g : ℕ → ℕ → Bool} {up down : List ℕ} → Holds f up down → ((i a : ℕ) → f i a ≡ g i a) → Holds g up down
@@ -149,7 +146,7 @@ withOwn i f j a = f j a || (ltb j i && eqb j a)
 own-more : (i j a : ℕ) → (ltb j i && eqb j a || eqb j i && eqb a i) ≡ (ltb j (i + 1) && eqb j a)
 own-more i j a =
     by-position (λ j. (ltb j i && eqb j a || eqb j i && eqb a i) ≡ (ltb j (i + 1) && eqb j a)) i
-    (rw (le-ltb i i (omega arith), eq-eqb i i refl, below-here i) (eqb-sym a i))
+    (rw (le-ltb i i (omega arith), eq-eqb i i refl, below-here i) (flip a i))
     (λ j n. rw (ne-eqb j i (λ e. n (sym e)), below-else j i n) (or-false (ltb j i && eqb j a)))
     j
 

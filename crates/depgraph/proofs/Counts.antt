@@ -6,15 +6,7 @@ use Prim.Native.Nat.{ℕ, zero, suc, _+_, _≤_, _<_}
 use native.Mathlib.Nat.{zero-add, eq-or-lt-of-le}
 use native.Mathlib.Omega.{arith}
 use Rattle.txset.specs.Below.{bit, anyFrom, countFrom}
-use Rattle.txset.proofs.Below.{clash, any-split, none-at}
-
--- where one has it, there is any
-pub any-at : (f : ℕ → Bool) (k i j : ℕ) → i ≤ j → j < i + k → f j ≡ true → anyFrom f k i ≡ true
-any-at f k i j a b h = go (anyFrom f k i) refl
-  where
-    go : (c : Bool) → anyFrom f k i ≡ c → anyFrom f k i ≡ true
-    go true e = e
-    go false e = clash h (none-at f k i e j a b)
+use Rattle.txset.proofs.Below.{any-split}
 
 -- one position more
 pub any-more : (f : ℕ → Bool) (k : ℕ) → anyFrom f (k + 1) 0 ≡ (anyFrom f k 0 || f k)

@@ -1,6 +1,6 @@
 -- Laws of specs/Graph.antt: who is whose parent, and who is above whom by way of some members. Assumes nothing.
-use mathlib.Core.Path.{_≡_, refl, sym, ap}
-use mathlib.Core.Bool.{Bool, true, false, not, _&&_, _||_, and-false}
+use mathlib.Core.Path.{_≡_, refl, ap}
+use mathlib.Core.Bool.{Bool, true, false, not, _&&_, and-false}
 use mathlib.Core.Logic.{_⊎_, inl, inr, ⊎-elim}
 use mathlib.Core.List.{List}
 use Prim.Native.Nat.{ℕ, zero, suc, _<_}
@@ -9,17 +9,9 @@ use lib.ListN.{length}
 use borrow.Author.Tests.{lt-ltb, ltb-true}
 use Rattle.txset.specs.Sets.{mem, setAt}
 use Rattle.txset.proofs.Below.{clash, lt-or-ge}
+use Rattle.txset.proofs.Bools.{and-both, or-either}
 use Rattle.txset.proofs.Sets.{at-past}
 use Rattle.depgraph.specs.Graph.{isParent, reach, isAbove}
-
--- a true conjunction has both parts, a true disjunction one of them
-pub and-both : (b c : Bool) → (b && c) ≡ true → (b ≡ true) × (c ≡ true)
-and-both true c e = (refl, e)
-and-both false c e = clash refl (sym e)
-
-pub or-either : (b c : Bool) → (b || c) ≡ true → (b ≡ true) ⊎ (c ≡ true)
-or-either true c e = inl refl
-or-either false c e = inr e
 
 -- i and a are members, those with the parents ps
 pub record Both (ps : List ℕ) (i a : ℕ) : Type 0 where

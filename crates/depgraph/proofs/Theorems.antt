@@ -11,15 +11,16 @@ use lib.Dec.{eqb, ltb}
 use lib.ListN.{length}
 use borrow.Author.Tests.{lt-ltb, eq-eqb, ltb-true, eqb-true}
 use Rattle.txset.specs.Below.{countFrom, firstFrom}
-use Rattle.txset.proofs.Below.{clash, first-has, first-below}
+use Rattle.txset.proofs.Below.{clash, first-has, first-below, any-at}
+use Rattle.txset.proofs.Bools.{and-both, or-either}
 use Rattle.txset.specs.Sets.{positions}
 use Rattle.txset.proofs.Words.{Fits}
 use Rattle.txset.proofs.Theorems.{sets-ext}
 use Rattle.depgraph.specs.declared.DepGraph.{DepGraph}
 use Rattle.depgraph.specs.Closed.{Closed}
 use Rattle.depgraph.specs.Graph.{isParent, Above, parent, further, reach, isAbove, isAncestor, isCyclic}
-use Rattle.depgraph.proofs.Reach.{and-both, or-either, Both, parent-both, reach-either, above-both}
-use Rattle.depgraph.proofs.Counts.{any-at, count-less}
+use Rattle.depgraph.proofs.Reach.{Both, parent-both, reach-either, above-both}
+use Rattle.depgraph.proofs.Counts.{count-less}
 
 -- ---- the closure
 

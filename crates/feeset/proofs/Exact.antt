@@ -36,7 +36,8 @@ module _ (fs : List ℤ) (ss : List ℕ) where
   total-exact is h = from-fee zeroRate is (omega arith) ∙ +ℤ-idl (exactSum (feesAt fs is))
 
   module _ (within : Within fs) where
-    at-spread : (is : List ℕ) → spread (feesAt fs is) ≤ feeLimit * length is
+    -- how far some of them are from zero together, at most
+    pub at-spread : (is : List ℕ) → spread (feesAt fs is) ≤ feeLimit * length is
     unfolding spread
     at-spread [] = omega arith
     at-spread (i ∷ is) = omega (arith, within-at fs within i, at-spread is)

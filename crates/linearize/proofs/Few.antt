@@ -12,7 +12,8 @@ use Rattle.txset.specs.Lists.{anyOf, elem}
 use Rattle.txset.specs.Sets.{mem, setAt}
 use Rattle.txset.proofs.Below.{clash}
 use Rattle.depgraph.specs.Graph.{isParent, Above, parent, further, isCyclic}
-use Rattle.depgraph.proofs.Reach.{and-both, parent-both}
+use Rattle.txset.proofs.Bools.{and-both}
+use Rattle.depgraph.proofs.Reach.{parent-both}
 use Rattle.depgraph.proofs.Theorems.{cyclic-is}
 use Rattle.linearize.specs.Linearize.{linearOrder}
 use Rattle.linearize.proofs.Theorems.{linear-below, linear-length}

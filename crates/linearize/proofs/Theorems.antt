@@ -11,7 +11,7 @@ use Rattle.depgraph.specs.Graph.{isAncestor, isCyclic}
 use Rattle.depgraph.proofs.Theorems.{ancestor-refl, ancestor-trans, fewer}
 use Rattle.candidates.specs.Candidates.{ancestorOrder}
 use Rattle.candidates.proofs.Theorems.{each-below, none-twice, every-member, after-ancestors}
-use Rattle.postpass.proofs.Ordered.{After}
+use Rattle.txset.proofs.Lists.{After}
 use Rattle.postlin.specs.PostLinearize.{postLinearize}
 use Rattle.postlin.proofs.Theorems.{post-same, post-after}
 use Rattle.output.proofs.Theorems.{out-below, out-once, out-after, out-every, out-length}

@@ -15,9 +15,10 @@ use Rattle.txset.specs.Below.{listFrom}
 use Rattle.txset.specs.Lists.{anyOf, elem}
 use Rattle.txset.proofs.Below.{lt-or-ge, elem-in, all-at}
 use Rattle.txset.proofs.Bools.{and-left, and-right}
+use Rattle.txset.proofs.Lists.{After}
 use Rattle.feeset.specs.Scan.{scan, best, ranksAbove}
 use Rattle.feeset.proofs.Scan.{best-elem}
-use Rattle.candidates.proofs.Kept.{elem-below, After}
+use Rattle.candidates.proofs.Kept.{elem-below}
 use Rattle.output.specs.Output.{chunkAt, memberReady, inside, putOut, nextChunk, chunksOut}
 
 -- ---- the best of some positions

@@ -15,34 +15,23 @@ use Rattle.feefrac.specs.Rate.{rateAt}
 use Rattle.txset.specs.Below.{bit, allFrom, countFrom, firstFrom, listFrom}
 use Rattle.txset.specs.Lists.{anyOf, elem}
 use Rattle.txset.proofs.Below.{clash, lt-or-ge, elem-in, list-nil, at-none, all-at, at-all, count-list, count-ext, count-without, first-is}
-use Rattle.txset.proofs.Lists.{elem-append, elem-one, elem-head, without-append}
+use Rattle.txset.proofs.Lists.{elem-append, elem-left, elem-one, elem-head, without-append, After}
 use Rattle.txset.proofs.Ranges.{count-le}
-use Rattle.txset.proofs.Bools.{and-left, and-right}
+use Rattle.txset.proofs.Bools.{and-left, and-right, or-either, implies}
 use Rattle.feeset.specs.Scan.{ranksAbove}
 use Rattle.feefrac.proofs.Exact.{sumOf}
-use Rattle.candidates.proofs.Kept.{elem-below, left, left-less, once-none, After}
+use Rattle.candidates.proofs.Kept.{elem-below, left, left-less, once-none}
 use Rattle.output.specs.Output.{cut, chunkAt, chunkAbove, chunkReady, memberReady, inside, putOut, nextChunk, chunksOut}
 use Rattle.output.proofs.Kept.{Best, none-or-best, mayCome, may-ready, keeps-inside}
 
--- ---- what holds of two
-
-either : (b c : Bool) → (b || c) ≡ true → (b ≡ true) ⊎ (c ≡ true)
-either true c e = inl refl
-either false c e = inr e
-
-implies : (b c : Bool) → (b ≡ true → c ≡ true) → (not b || c) ≡ true
-implies true c h = h refl
-implies false c h = refl
+-- ---- which of two lists has it
 
 in-cons : (i x : ℕ) (xs : List ℕ) → elem i (x ∷ xs) ≡ true → (i ≡ x) ⊎ (elem i xs ≡ true)
 unfolding elem anyOf
-in-cons i x xs e = ⊎-elim (λ p. inl (eqb-true i x p)) (λ p. inr p) (either (eqb i x) (elem i xs) e)
+in-cons i x xs e = ⊎-elim (λ p. inl (eqb-true i x p)) (λ p. inr p) (or-either (eqb i x) (elem i xs) e)
 
 in-append : (i : ℕ) (xs ys : List ℕ) → elem i (xs ++ ys) ≡ true → (elem i xs ≡ true) ⊎ (elem i ys ≡ true)
-in-append i xs ys e = either (elem i xs) (elem i ys) (sym (elem-append i xs ys) ∙ e)
-
-append-front : (i : ℕ) (xs ys : List ℕ) → elem i xs ≡ true → elem i (xs ++ ys) ≡ true
-append-front i xs ys e = elem-append i xs ys ∙ ap (λ (b : Bool). b || elem i ys) e
+in-append i xs ys e = or-either (elem i xs) (elem i ys) (sym (elem-append i xs ys) ∙ e)
 
 -- ---- the first in a list
 
@@ -93,7 +82,7 @@ cut-stands (l ∷ ls) xs zero t e =
       back = f .back ++ drop l xs;
       split = sym (take-append-drop l xs) ∙ ap (λ (p : List ℕ). p ++ drop l xs) (f .split ∙ ap (λ (x : ℕ). f .front ++ (x ∷ f .back)) is)
           ∙ append-assoc (f .front) (t ∷ f .back) (drop l xs);
-      before = λ u q. (0, (omega arith, ap (elem u) (f .split) ∙ append-front u (f .front) (f .is ∷ f .back) q));
+      before = λ u q. (0, (omega arith, ap (elem u) (f .split) ∙ elem-left u (f .front) (f .is ∷ f .back) q));
     }
 cut-stands (l ∷ ls) xs (suc k) t e =
     let s = cut-stands ls (drop l xs) k t e in
@@ -216,7 +205,7 @@ module _ (n : ℕ) (anc : ℕ → ℕ → Bool) (out c : List ℕ) where
 inside-keeps : (fs : List ℤ) (ss : List ℕ) (n : ℕ) (anc : ℕ → ℕ → Bool) (c : List ℕ) (k : ℕ) (out : List ℕ) (i : ℕ) → elem i out ≡ true
     → elem i (inside fs ss n anc c k out) ≡ true
 inside-keeps fs ss n anc c k out i =
-    keeps-inside fs ss n anc (λ o. elem i o ≡ true) (λ _ o t _. append-front i o (t ∷ [])) c k out
+    keeps-inside fs ss n anc (λ o. elem i o ≡ true) (λ _ o t _. elem-left i o (t ∷ [])) c k out
 
 -- ---- a round finds one
 
@@ -244,7 +233,7 @@ module _ (n : ℕ) (anc : ℕ → ℕ → Bool) (order : List ℕ) (after : Afte
           ⊎-elim
           (λ q. before a m (after xs ys t a s m p (eqb-false a t z)) q)
           (λ q. q)
-          (either (elem a c) (elem a out) (ready-closed n anc out c h t a l e m p))
+          (or-either (elem a c) (elem a out) (ready-closed n anc out c h t a l e m p))
 
   -- all chunks before the k-th are gone: it is ready
   pub first-chunk : (cs : List (List ℕ)) → Parts cs order → (gone out : List ℕ) (k : ℕ) → Gone n cs gone out

@@ -17,7 +17,7 @@ use Rattle.txset.specs.Lists.{elem}
 use Rattle.txset.specs.Sets.{positions, isPosition, mem, members, size, isEmpty, setAt}
 use Rattle.txset.proofs.Lists.{elem-append, elem-one}
 use Rattle.txset.proofs.Ranges.{list-below}
-use Rattle.txset.proofs.Sets.{mem-position}
+use Rattle.txset.proofs.Sets.{mem-position, size-without}
 use Rattle.txset.proofs.Walk.{walk-done}
 use Rattle.feeset.specs.Scan.{best, ranksAbove}
 use Rattle.output.specs.Output.{memberReady, inside}
@@ -25,7 +25,7 @@ use Rattle.output.specs.Steps.{All}
 use Rattle.output.specs.Rounds.{only, freed, memberOf, Standing, Placed, Put}
 use Rattle.output.proofs.Choices.{only-list, best-mem}
 use Rattle.output.proofs.Ready.{freed-ready}
-use Rattle.output.proofs.Sizes.{position-and, size-most, size-less, size-more, size-in}
+use Rattle.output.proofs.Sizes.{position-and, size-most, size-more, size-in}
 
 -- ---- the definition, by what is chosen
 
@@ -174,7 +174,7 @@ module _ {fs : List ℤ} {ss : List ℕ} {n : ℕ} {ancestors room₀ : List ℕ
     done-more i = more i ∙ ap (λ (b : Bool). mem done i || b) (position-and i (eqb i t) (λ e. omega (arith, eqb-true i t e, mem-position left t in-left)))
 
     pub putting-less : size left' < size left
-    putting-less = omega (arith, size-less left left' t in-left less)
+    putting-less = omega (arith, size-without left left' t in-left less)
 
     pub putting-room : len < length room
     putting-room = standing-room done' t (h .few) (p .stands) (p .fresh t in-left .0) (p .fresh t in-left .1) done-more

@@ -11,7 +11,8 @@ use Rattle.txset.specs.declared.TxSet.{TxSet}
 use Rattle.txset.specs.Below.{anyFrom, allFrom, firstFrom}
 use Rattle.txset.specs.Lists.{elem}
 use Rattle.txset.specs.Sets.{positions, mem, isSubset, setAt}
-use Rattle.txset.proofs.Below.{clash, lt-or-ge, all-ext, all-at, at-all, none-at, first-has, first-below}
+use Rattle.txset.proofs.Below.{lt-or-ge, any-at, all-ext, all-at, at-all, first-has, first-below}
+use Rattle.txset.proofs.Bools.{implies}
 use Rattle.txset.proofs.Sets.{subset-mem, mem-subset}
 use Rattle.output.specs.Output.{chunkReady, memberReady}
 use Rattle.output.specs.Steps.{All, needed}
@@ -23,21 +24,9 @@ both true b f g = sym (f refl)
 both false true f g = g refl
 both false false f g = refl
 
--- an implication from its parts and back
-imp-intro : (a b : Bool) → (a ≡ true → b ≡ true) → (not a || b) ≡ true
-imp-intro true b f = f refl
-imp-intro false b f = refl
-
+-- what an implication that holds gives
 imp-elim : (a b : Bool) → (not a || b) ≡ true → a ≡ true → b ≡ true
 imp-elim a b h e = ap (λ (c : Bool). not c || b) (sym e) ∙ h
-
--- where a position has it, there is any
-any-at : (f : ℕ → Bool) (k i j : ℕ) → i ≤ j → j < i + k → f j ≡ true → anyFrom f k i ≡ true
-any-at f k i j a b e = go (anyFrom f k i) refl
-  where
-    go : (c : Bool) → anyFrom f k i ≡ c → anyFrom f k i ≡ true
-    go true h = h
-    go false h = clash e (none-at f k i h j a b)
 
 -- ---- members
 
@@ -92,8 +81,8 @@ module _ (n : ℕ) (done : TxSet) (out : List ℕ) (member : (i : ℕ) → mem d
   covered-ready anc c o outside =
       both (isSubset o done) (chunkReady n anc out c)
       (λ h. at-all each n 0 (λ t _ l.
-      imp-intro (elem t c) (allFrom (has t) n 0)
-      (λ tc. at-all (has t) n 0 (λ a _ m. imp-intro (anc t a) (elem a c || elem a out) (λ ta. out-of h t a l m tc ta (elem a c) refl)))))
+      implies (elem t c) (allFrom (has t) n 0)
+      (λ tc. at-all (has t) n 0 (λ a _ m. implies (anc t a) (elem a c || elem a out) (λ ta. out-of h t a l m tc ta (elem a c) refl)))))
       (λ h. mem-subset o done (λ a e. member a ∙ in-out h a (sym (outside a) ∙ e)))
     where
       has : ℕ → ℕ → Bool

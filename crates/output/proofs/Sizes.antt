@@ -1,54 +1,39 @@
--- How many members a set has, with one more, with one fewer, of n positions, and of a list's elements. Assumes nothing.
+-- How many members a set has, with one more, of n positions, and of a list's elements. Assumes nothing.
 use mathlib.Core.Path.{_≡_, refl, sym, ap, _∙_}
 use mathlib.Core.Bool.{Bool, true, false, not, _&&_, _||_, and-false, and-true, or-false, or-true, and-eq-true-iff}
 use mathlib.Core.List.{List, [], _∷_}
 use mathlib.Core.Logic.{⊎-elim}
-use Prim.Native.Nat.{ℕ, zero, suc, _+_, _≤_, _<_}
+use Prim.Native.Nat.{ℕ, suc, _≤_, _<_}
 use native.Mathlib.Omega.{arith}
 use lib.Dec.{eqb, ltb}
 use lib.ListN.{length}
 use borrow.Author.Tests.{lt-ltb, eq-eqb, eqb-true, not-true}
 use Rattle.txset.specs.declared.TxSet.{TxSet}
-use Rattle.txset.specs.Below.{bit, countFrom}
+use Rattle.txset.specs.Below.{countFrom}
 use Rattle.txset.specs.Lists.{anyOf, elem}
 use Rattle.txset.specs.Sets.{positions, isPosition, mem, size}
 use Rattle.txset.proofs.Below.{lt-or-ge, at-none, list-nil, count-list, count-ext, count-without}
-use Rattle.txset.proofs.Ranges.{count-below}
-use Rattle.txset.proofs.Sets.{mem-position}
+use Rattle.txset.proofs.Ranges.{count-below, count-le}
+use Rattle.txset.proofs.Sets.{size-without}
 
 -- what holds of positions alone need not ask whether it is one
 pub position-and : (i : ℕ) (b : Bool) → (b ≡ true → i < positions) → (isPosition i && b) ≡ b
 position-and i true h = ap (λ (c : Bool). c && true) (lt-ltb i positions (h refl))
 position-and i false h = and-false (isPosition i)
 
--- of k positions at most k
-count-most : (f : ℕ → Bool) (k i : ℕ) → countFrom f k i ≤ k
-unfolding countFrom
-count-most f zero i = omega arith
-count-most f (suc k) i = one (f i) (count-most f k (suc i))
-  where
-    one : (b : Bool) → countFrom f k (suc i) ≤ k → bit b + countFrom f k (suc i) ≤ suc k
-    one true h = omega arith
-    one false h = omega arith
-
 -- a set of positions below n has at most n members
 pub size-most : (s : TxSet) (n : ℕ) → n ≤ positions → ((i : ℕ) → mem s i ≡ true → i < n) → size s ≤ n
 unfolding size
-size-most s n h below = omega (arith, count-below (mem s) (mem s) n positions h (λ i. low i (mem s i) refl), count-most (mem s) n 0)
+size-most s n h below = omega (arith, count-below (mem s) (mem s) n positions h (λ i. low i (mem s i) refl), count-le (mem s) n 0)
   where
     low : (i : ℕ) (b : Bool) → mem s i ≡ b → b ≡ (ltb i n && b)
     low i true e = sym (ap (λ (c : Bool). c && true) (lt-ltb i n (below i e)))
     low i false e = sym (and-false (ltb i n))
 
--- one fewer
-pub size-less : (s t : TxSet) (x : ℕ) → mem s x ≡ true → ((i : ℕ) → mem t i ≡ (mem s i && not (eqb i x))) → size s ≡ suc (size t)
-unfolding size
-size-less s t x e h = count-without (mem s) (mem t) positions 0 x (omega arith) (omega (arith, mem-position s x e)) e (λ i _ _. h i)
-
 -- one more
 pub size-more : (s t : TxSet) (x : ℕ) → mem s x ≡ false → ((i : ℕ) → mem t i ≡ (mem s i || eqb i x)) → size t ≡ suc (size s)
 size-more s t x e h =
-    size-less t s x (h x ∙ ap (λ (b : Bool). mem s x || b) (eq-eqb x x refl) ∙ or-true (mem s x)) (λ i. back i (eqb i x) refl)
+    size-without t s x (h x ∙ ap (λ (b : Bool). mem s x || b) (eq-eqb x x refl) ∙ or-true (mem s x)) (λ i. back i (eqb i x) refl)
   where
     back : (i : ℕ) (b : Bool) → eqb i x ≡ b → mem s i ≡ (mem t i && not b)
     back i true q = ap (mem s) (eqb-true i x q) ∙ e ∙ sym (and-false (mem t i))

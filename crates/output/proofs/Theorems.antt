@@ -14,7 +14,8 @@ use Rattle.txset.specs.Lists.{elem, distinct}
 use Rattle.feeset.specs.Scan.{best, ranksAbove}
 use Rattle.chunking.specs.Chunks.{chunkLengths}
 use Rattle.chunking.proofs.Theorems.{lengths-sum}
-use Rattle.candidates.proofs.Kept.{Once, once-none, once-more, After, after-none}
+use Rattle.txset.proofs.Lists.{After}
+use Rattle.candidates.proofs.Kept.{Once, once-none, once-more, after-none}
 use Rattle.output.specs.Output.{chunksOf, chunkAt, chunkReady, memberReady, nextChunk, outputOrder}
 use Rattle.output.proofs.Cutting.{length-cut}
 use Rattle.output.proofs.Kept.{mayCome, Ready, keeps-out, after-ready}

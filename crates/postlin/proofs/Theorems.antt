@@ -8,7 +8,8 @@ use Rattle.txset.specs.Lists.{elem, distinct}
 use Rattle.depgraph.specs.Graph.{isAncestor, isDescendant}
 use Rattle.postpass.specs.Pass.{backPass}
 use Rattle.postpass.proofs.Theorems.{Same, back-same, forward-same}
-use Rattle.postpass.proofs.Ordered.{ordered, back-ordered, forward-ordered, After, after-ordered, ordered-after}
+use Rattle.txset.proofs.Lists.{After}
+use Rattle.postpass.proofs.Ordered.{ordered, back-ordered, forward-ordered, after-ordered, ordered-after}
 use Rattle.postlin.specs.PostLinearize.{postLinearize}
 
 same-trans : {xs ys zs : List ℕ} → Same xs ys → Same ys zs → Same xs zs

@@ -12,7 +12,7 @@ use Rattle.feefrac.proofs.Picks.{pick-where}
 use Rattle.txset.specs.Lists.{anyOf, elem, distinct}
 use Rattle.txset.proofs.Below.{clash}
 use Rattle.txset.proofs.Bools.{or-left, or-right}
-use Rattle.txset.proofs.Lists.{any-append, elem-append, elem-head, elem-tail}
+use Rattle.txset.proofs.Lists.{any-append, elem-append, elem-left, elem-head, elem-tail, After}
 use Rattle.postpass.specs.Pass.{Group, absorb, dependsOn, settle, alone, groupsAfter, flat, onePass, backPass, forwardPass}
 use Rattle.postpass.proofs.Lists.{any-none, none-any}
 
@@ -159,13 +159,6 @@ unfolding ordered
 ordered-at dep xs ys i a h m =
     let b = and-eq-true-iff (not (anyOf (dep i) ys)) (ordered dep ys) .0 (ordered-parts xs (i ∷ ys) h .back) in
     any-none (dep i) ys (not-true _ (b .0)) a m
-
--- each stands behind those below n on which it depends
-abbrev pub After : ℕ → (ℕ → ℕ → Bool) → List ℕ → Type 0
-After n dep l = (xs ys : List ℕ) (i a : ℕ) → l ≡ xs ++ (i ∷ ys) → a < n → dep i a ≡ true → (a ≡ i → ⊥) → elem a xs ≡ true
-
-elem-left : (i : ℕ) (xs ys : List ℕ) → elem i xs ≡ true → elem i (xs ++ ys) ≡ true
-elem-left i xs ys m = elem-append i xs ys ∙ rw m
 
 elem-right : (i : ℕ) (xs ys : List ℕ) → elem i ys ≡ true → elem i (xs ++ ys) ≡ true
 elem-right i xs ys m = elem-append i xs ys ∙ rw m (or-true (elem i xs))

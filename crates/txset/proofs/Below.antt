@@ -270,6 +270,14 @@ at-none f k i h = go (anyFrom f k i) refl
     go true e = clash (first-has f k i e) (h (firstFrom f k i) (first-is f k i .from) (first-below f k i e))
     go false e = e
 
+-- where one has it, there is any
+pub any-at : (f : ℕ → Bool) (k i j : ℕ) → i ≤ j → j < i + k → f j ≡ true → anyFrom f k i ≡ true
+any-at f k i j a b h = go (anyFrom f k i) refl
+  where
+    go : (c : Bool) → anyFrom f k i ≡ c → anyFrom f k i ≡ true
+    go true e = e
+    go false e = clash h (none-at f k i e j a b)
+
 -- where all have it, each position has it, and the other way
 pub all-at : (f : ℕ → Bool) (k i : ℕ) → allFrom f k i ≡ true → (j : ℕ) → i ≤ j → j < i + k → f j ≡ true
 all-at f k i h j a b =

@@ -1,6 +1,7 @@
--- The parts of a conjunction that holds, and of a disjunction that does not. Assumes nothing.
-use mathlib.Core.Path.{_≡_, refl}
-use mathlib.Core.Bool.{Bool, true, false, _&&_, _||_}
+-- The parts of a conjunction that holds, of a disjunction that holds or does not, and an implication. Assumes nothing.
+use mathlib.Core.Path.{_≡_, refl, sym}
+use mathlib.Core.Bool.{Bool, true, false, not, _&&_, _||_}
+use mathlib.Core.Logic.{_⊎_, inl, inr}
 use Rattle.txset.proofs.Below.{clash}
 
 pub and-left : (b c : Bool) → (b && c) ≡ true → b ≡ true
@@ -18,3 +19,17 @@ or-left false c e = refl
 pub or-right : (b c : Bool) → (b || c) ≡ false → c ≡ false
 or-right true c e = clash refl e
 or-right false c e = e
+
+-- a true conjunction has both parts, a true disjunction one of them
+pub and-both : (b c : Bool) → (b && c) ≡ true → (b ≡ true) × (c ≡ true)
+and-both true c e = (refl, e)
+and-both false c e = clash refl (sym e)
+
+pub or-either : (b c : Bool) → (b || c) ≡ true → (b ≡ true) ⊎ (c ≡ true)
+or-either true c e = inl refl
+or-either false c e = inr e
+
+-- where the one gives the other, the implication holds
+pub implies : (b c : Bool) → (b ≡ true → c ≡ true) → (not b || c) ≡ true
+implies true c h = h refl
+implies false c h = refl

@@ -1,4 +1,5 @@
--- Laws of lists of positions (specs/Lists.antt): a property of some or of each element, membership, and no element twice. Assumes nothing.
+-- Laws of lists of positions (specs/Lists.antt): a property of some or of each element, membership, no element twice, and what stands before what.
+-- Assumes nothing.
 use mathlib.Core.Path.{_≡_, refl, sym, ap, ap₂, _∙_}
 use mathlib.Core.Bool.{Bool, true, false, not, _&&_, _||_, or-false, or-true, or-assoc, and-false, and-assoc, false≢true, and-eq-true-iff}
 use mathlib.Core.Logic.{⊎-elim}
@@ -26,6 +27,10 @@ all-append f (x ∷ xs) ys = ap (λ (b : Bool). f x && b) (all-append f xs ys) �
 pub elem-append : (i : ℕ) (xs ys : List ℕ) → elem i (xs ++ ys) ≡ (elem i xs || elem i ys)
 unfolding elem
 elem-append i xs ys = any-append (eqb i) xs ys
+
+-- what is in the first is in the two
+pub elem-left : (i : ℕ) (xs ys : List ℕ) → elem i xs ≡ true → elem i (xs ++ ys) ≡ true
+elem-left i xs ys m = elem-append i xs ys ∙ ap (λ (b : Bool). b || elem i ys) m
 
 -- what has f and is in neither of two lists
 pub without-append : (f : Bool) (i : ℕ) (xs ys : List ℕ) → ((f && not (elem i xs)) && not (elem i ys)) ≡ (f && not (elem i (xs ++ ys)))
@@ -58,7 +63,8 @@ elem-at (x ∷ xs) (suc k) h = elem-tail (getD xs k 0) x xs (elem-at xs k (le-of
 
 -- ---- no element twice
 
-flip : (x y : ℕ) → eqb x y ≡ eqb y x
+-- two numbers may be compared either way
+pub flip : (x y : ℕ) → eqb x y ≡ eqb y x
 flip x y = go (eqb y x) refl
   where
     go : (b : Bool) → eqb y x ≡ b → eqb x y ≡ b
@@ -93,6 +99,12 @@ distinct-front (x ∷ xs) ys e =
     go : (a b : Bool) → (not a && b) ≡ false → (b ≡ false → distinct (xs ++ ys) ≡ false) → (not (a || elem x ys) && distinct (xs ++ ys)) ≡ false
     go true b f h = refl
     go false b f h = ap (λ (d : Bool). not (elem x ys) && d) (h f) ∙ and-false (not (elem x ys))
+
+-- ---- what stands before what
+
+-- each stands behind those below n on which it depends
+abbrev pub After : ℕ → (ℕ → ℕ → Bool) → List ℕ → Type 0
+After n dep l = (xs ys : List ℕ) (i a : ℕ) → l ≡ xs ++ (i ∷ ys) → a < n → dep i a ≡ true → (a ≡ i → ⊥) → elem a xs ≡ true
 
 -- ---- tables
 

@@ -4,7 +4,7 @@ use mathlib.Core.Bool.{Bool, true, false, not, _&&_, _||_, Bool·not-not}
 use mathlib.Core.Logic.{_≢_, ⊎-elim}
 use mathlib.Core.List.{List}
 use Prim.Native.Nat.{ℕ, zero, suc, _^_, _≤_, _<_}
-use lib.Dec.{lit<}
+use lib.Dec.{lit<, eqb}
 use lib.ListN.{length, getD, replicate, length-set, length-replicate, getD-replicate, List·getD-eq-default}
 use lib.Seq.{getD-set-same, getD-set-other}
 use native.Mathlib.Omega.{arith}
@@ -14,7 +14,7 @@ use Rattle.txset.specs.Lists.{elem}
 use Rattle.txset.specs.Below.{anyFrom}
 use Rattle.txset.specs.Sets.{words, positions, isPosition, mem, members, size, isEmpty, isSubset, overlap, setAt, putAt}
 use Rattle.txset.proofs.Below.{clash, lt-or-ge, but-not, all-any, any-ext, none-at, at-none, all-at, at-all, list-ext, count-list}
-use Rattle.txset.proofs.Below.{elem-in, elem-out, ascending, list-ascending}
+use Rattle.txset.proofs.Below.{elem-in, elem-out, ascending, list-ascending, count-without}
 use Rattle.txset.proofs.Words.{Fits, hasIn-past, hasIn-zeros}
 
 -- a set's words are those of a machine
@@ -105,6 +105,11 @@ size-members s = count-list (mem s) positions 0
 
 pub size-ext : (s t : TxSet) → ((i : ℕ) → mem s i ≡ mem t i) → size s ≡ size t
 size-ext s t h = size-members s ∙ ap length (members-ext s t h) ∙ sym (size-members t)
+
+-- one member t fewer
+pub size-without : (s u : TxSet) (t : ℕ) → mem s t ≡ true → ((i : ℕ) → mem u i ≡ (mem s i && not (eqb i t))) → size s ≡ suc (size u)
+unfolding size
+size-without s u t h w = count-without (mem s) (mem u) positions 0 t (omega arith) (mem-position s t h) h (λ i a b. w i)
 
 -- the list has the members, each above the one before it
 pub members-elem : (s : TxSet) (i : ℕ) → elem i (members s) ≡ mem s i

@@ -1,5 +1,6 @@
 -- Document 01, module 2 (TxSet): a set of positions 0..63, by its members alone.
--- Membership is defined over any number of words. How many a TxSet has is said in `words` and `positions`, and nowhere else.
+-- Membership is defined over any number of words. How many a TxSet has is said in `words` and `positions`; bounds and arrays of the
+-- crates above name 64.
 -- Assumes nothing.
 use Prim.Native.Nat.{ℕ, _*_, _/_, _%_, _^_, _<_}
 use mathlib.Core.Path.{_≡_}
