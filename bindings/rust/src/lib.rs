@@ -80,21 +80,8 @@ pub fn linearize<'r>(
     parents: &[u64],
     room: &'r mut [usize],
 ) -> Result<&'r [usize], Refusal> {
-    // SAFETY: each pointer and count are those of one slice, and so are aligned, not null and of
-    // memory that is there; the mutable borrow of `room` overlaps no other. The call keeps none.
-    let reply = unsafe {
-        yaghrudil_linearize(
-            fees.as_ptr(),
-            fees.len(),
-            sizes.as_ptr(),
-            sizes.len(),
-            parents.as_ptr(),
-            parents.len(),
-            room.as_mut_ptr(),
-            room.len(),
-        )
-    };
-    Ok(&room[..reply.written()?])
+    let written = on_cluster(yaghrudil_linearize, fees, sizes, parents, room)?;
+    Ok(&room[..written])
 }
 
 /// Improves an order in place. It has to list each position once, but parents need not stand before
@@ -118,20 +105,7 @@ pub fn post_linearize(
     parents: &[u64],
     order: &mut [usize],
 ) -> Result<(), Refusal> {
-    // SAFETY: as in `linearize`; here the mutable borrow is `order`.
-    let reply = unsafe {
-        yaghrudil_post_linearize(
-            fees.as_ptr(),
-            fees.len(),
-            sizes.as_ptr(),
-            sizes.len(),
-            parents.as_ptr(),
-            parents.len(),
-            order.as_mut_ptr(),
-            order.len(),
-        )
-    };
-    let written = reply.written()?;
+    let written = on_cluster(yaghrudil_post_linearize, fees, sizes, parents, order)?;
     assert_eq!(written, order.len(), "libyaghrudil.a breaks its contract");
     Ok(())
 }
@@ -154,7 +128,7 @@ pub fn chunk_lengths<'r>(
     sizes: &[u64],
     room: &'r mut [usize],
 ) -> Result<&'r [usize], Refusal> {
-    // SAFETY: as in `linearize`.
+    // SAFETY: as in `on_cluster`.
     let reply = unsafe {
         yaghrudil_chunk_lengths(
             fees.as_ptr(),
@@ -166,6 +140,44 @@ pub fn chunk_lengths<'r>(
         )
     };
     Ok(&room[..reply.written()?])
+}
+
+/// The two calls on a cluster, which write to one slice.
+type ClusterCall = unsafe extern "C" fn(
+    *const i64,
+    usize,
+    *const u64,
+    usize,
+    *const u64,
+    usize,
+    *mut usize,
+    usize,
+) -> Reply;
+
+#[inline]
+fn on_cluster(
+    call: ClusterCall,
+    fees: &[i64],
+    sizes: &[u64],
+    parents: &[u64],
+    written: &mut [usize],
+) -> Result<usize, Refusal> {
+    // SAFETY: `call` is one of the library's. Each pointer and count are those of one slice, and so
+    // are aligned, not null and of memory that is there; the mutable borrow overlaps no other. The
+    // call keeps none.
+    let reply = unsafe {
+        call(
+            fees.as_ptr(),
+            fees.len(),
+            sizes.as_ptr(),
+            sizes.len(),
+            parents.as_ptr(),
+            parents.len(),
+            written.as_mut_ptr(),
+            written.len(),
+        )
+    };
+    reply.written()
 }
 
 /// What the library returns by value.

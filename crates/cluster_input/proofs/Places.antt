@@ -46,7 +46,7 @@ module _ (b : ℕ) (text : List ℕ) (i : ℕ) where
 
 -- ---- lines
 
-module _ (text : List ℕ) (from : ℕ) (within : from ≤ length text) where
+module _ (text : List ℕ) (from : ℕ) where
   abbrev left : List ℕ
   left = drop from text
 

@@ -1,7 +1,5 @@
 // The lines of the input.
 ghost use mathlib.Core.Path.{_≡_};
-ghost use Prim.Native.Nat.{_≤_};
-ghost use lib.ListN.{length};
 ghost use Rattle.cluster_input.specs.Lines as spec;
 ghost use Rattle.cluster_input.specs.Steps.{placeOf, lineAt, fieldAt, hasEnd};
 
@@ -25,9 +23,8 @@ pub struct Span {
 // The most bytes before a newline.
 const LONGEST: usize = 1024;
 
-// The place of the next such byte, or the end.
+// The place of the next such byte, or the end; past the end, `from` itself.
 pub fn place(text: &[u8], from: usize, byte: u8) -> usize
-    requires { ⌜ from ≤ length (now text) ⌝ }
     ensures { λ r. ⌜ r ≡ placeOf byte (now (text .entry)) from ⌝ }
 {
     let mut i = from;
@@ -42,7 +39,6 @@ pub fn place(text: &[u8], from: usize, byte: u8) -> usize
 
 // The end of the line that starts at `from`.
 fn line_end(text: &[u8], from: usize) -> Line
-    requires { ⌜ from ≤ length (now text) ⌝ }
     ensures { λ r. ⌜ r ≡ lineAt (now (text .entry)) from ⌝ }
 {
     let end = place(text, from, b'\n');
@@ -84,7 +80,6 @@ fn starts(line: &[u8], key: &[u8]) -> bool
 
 // The value of the line that starts at `from`, which has to have this key.
 pub fn field(text: &[u8], from: usize, key: &[u8]) -> Value
-    requires { ⌜ from ≤ length (now text) ⌝ }
     ensures { λ r. ⌜ r ≡ fieldAt (now (key .entry)) (now (text .entry)) from ⌝ }
 {
     let Line::Ends(end) = line_end(text, from) else {

@@ -87,7 +87,7 @@ parents-of-spec =
     (λ c κs. search needs)
     returns
     loop-holds
-    (λ c κs. c .loop .inv .within)
+    (λ c κs. search needs)
     (λ c. omega (arith, c .place .ensures))
     (λ c. omega (arith, c .place .ensures))
     (λ c. omega (arith, within c))

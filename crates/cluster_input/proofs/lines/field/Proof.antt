@@ -66,5 +66,5 @@ field-spec =
     (λ c. omega (arith, whole (c .before)))
     (λ c κs. search needs)
     returns-2
-    (λ c. search needs)
+    (λ c. let w = whole (c .before .before .before .before) in let i = w .inside in let a = w .at in search needs)
     returns-3)
