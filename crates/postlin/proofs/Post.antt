@@ -63,4 +63,5 @@ module _ (fs : List ℤ) (ss ps order : List ℕ) (anc desc : ℕ → ℕ → Bo
   passes p q mid out m o =
       let back : mid ≡ backPass fs ss (isDescendant ps) order = m ∙ rw (le-leb (length order) 64 h, q) in
       let long : length mid ≤ 64 = omega (arith, ap length back, back-same fs ss (isDescendant ps) order .long) in
-      o ∙ rw (le-leb (length mid) 64 long, p, back)
+      let fore : out ≡ forwardPass fs ss (isAncestor ps) (backPass fs ss (isDescendant ps) order) = o ∙ rw (le-leb (length mid) 64 long, p, back) in
+      fore

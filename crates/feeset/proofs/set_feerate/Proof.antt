@@ -2,9 +2,10 @@
 use mathlib.Core.Path.{_≡_, refl, sym, ap, _∙_}
 use mathlib.Core.Bool.{false}
 use Rattle.feefrac.specs.declared.FeeFrac.{FeeFrac}
+use Rattle.feefrac.specs.Rate.{sum, rateAt}
 use borrow.Author.Needs.{needs}
 use borrow.Author.Tests.{not-true, not-false}
-use Rattle.txset.specs.Sets.{members, size, isEmpty}
+use Rattle.txset.specs.Sets.{members, size, isEmpty, lowestOf}
 use Rattle.txset.proofs.Walk.{walk-step, walk-less, walk-done}
 use Rattle.feeset.specs.Total.{totalFrom}
 use Rattle.feeset.proofs.set_feerate.Statement.{statement}
@@ -27,8 +28,13 @@ loop-again : tie.Need-loop-again Inv-loop μ-loop
 unfolding totalFrom
 loop-again c =
     let turn = c .before .before .before .before in
-    rw (c .add .ensures, c .before .at .ensures, c .before .before .before .lowest .ensures)
-    (ap (totalFrom _ _ (turn .before .before .loop .sum)) (sym (walk-step _ _ (c .before .before .without-lowest .ensures) (some turn))) ∙ turn .before .before .loop .inv)
+    let loop = turn .before .before in
+    let args = loop .before .before .before .args in
+    let taken : c .add .result ≡ sum (loop .loop .sum) (rateAt (args .fees .now) (args .sizes .now) (lowestOf (loop .loop .rest))) =
+    c .add .ensures ∙ ap (sum (loop .loop .sum)) (c .before .at .ensures ∙ ap (rateAt (args .fees .now) (args .sizes .now)) (c .before .before .before .lowest .ensures))
+    in
+    ap (λ (r : FeeFrac). totalFrom (args .fees .now) (args .sizes .now) r (members (c .before .before .without-lowest .result))) taken
+    ∙ ap (totalFrom _ _ (loop .loop .sum)) (sym (walk-step _ _ (c .before .before .without-lowest .ensures) (some turn))) ∙ loop .loop .inv
 
 returns : tie.Need-returns Inv-loop μ-loop
 unfolding totalFrom
