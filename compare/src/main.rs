@@ -23,7 +23,7 @@ compare run [--seed S] [--clusters N]   compare the library with the original on
 compare bench                           print a table of times
 compare worst [--seconds S]             search for the clusters with the smallest gain
 compare replay DIR                      write cases and answers, as stdin and stdout, to a folder
-compare texts DIR                       write the table of crates/cluster_texts to a folder";
+compare texts DIR                       write the table of crates/run_cluster_texts to a folder";
 
 fn main() -> ExitCode {
     let words: Vec<String> = std::env::args().skip(1).collect();

@@ -1,4 +1,4 @@
-//! The table of crates/cluster_texts: texts for the cluster program, and what document 01 says it prints for each. The reading and the
+//! The table of crates/run_cluster_texts: texts for the cluster program, and what document 01 says it prints for each. The reading and the
 //! printing are written anew from 01's sentences; only the order and the chunks are asked of the original.
 
 use crate::cluster::HIGHEST;
@@ -179,7 +179,7 @@ pub fn encode(text: &[u8]) -> Vec<u8> {
     line
 }
 
-/// Writes `stdin` and `stdout` of crates/cluster_texts to a folder.
+/// Writes `stdin` and `stdout` of crates/run_cluster_texts to a folder.
 pub fn write_table(folder: &Path) -> std::io::Result<()> {
     let (mut asked, mut told) = (Vec::new(), Vec::new());
     for text in texts() {
@@ -626,7 +626,7 @@ mod tests {
 
     #[test]
     fn stored_runs_of_the_program() {
-        for name in ["cluster", "cluster_64"] {
+        for name in ["cluster", "run_cluster_64"] {
             let folder = Path::new(env!("CARGO_MANIFEST_DIR"))
                 .join("../crates")
                 .join(name);

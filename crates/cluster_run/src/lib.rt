@@ -3,8 +3,8 @@ ghost use mathlib.Core.Path.{_≡_};
 ghost use Prim.Native.Nat.{_≤_, _<_};
 ghost use mathlib.Core.Bool.{false};
 ghost use lib.ListN.{length, take};
-ghost use Rattle.cluster_input.specs.Lines.{longestText};
-ghost use Rattle.cluster_input.specs.Calls.{isDecided};
+ghost use Rattle.cluster_reader.specs.Lines.{longestText};
+ghost use Rattle.cluster_reader.specs.Calls.{isDecided};
 ghost use Rattle.cluster_run.specs.Bounds.{Within};
 use libc::STDIN_FILENO;
 use libc::STDOUT_FILENO;
@@ -22,12 +22,12 @@ pub fn run() {
         return;
     };
     let mut out = [0u8; 8192];
-    let n = cluster_text::respond(&text[..len], &mut out);
+    let n = cluster_respond::respond(&text[..len], &mut out);
     io::write_all(STDOUT_FILENO, &out[..n]);
 }
 
 // More than the longest text of the right form has: where the room is full, nothing behind it changes the response (`full-responds` of
-// cluster_text's proofs).
+// cluster_respond's proofs).
 fn room() -> [u8; 197_826]
     ensures { λ r. ⌜ 197826 ≡ length r ⌝ }
     ensures { λ r. ⌜ longestText < length r ⌝ }
@@ -48,7 +48,7 @@ fn read_input(text: &mut [u8]) -> Got
             return Got::Bytes(len);
         }
         len += n;
-        if cluster_input::is_decided(&text[..len]) {
+        if cluster_reader::is_decided(&text[..len]) {
             return Got::Bytes(len);
         }
     }

@@ -15,10 +15,10 @@ use Rattle.feeset.specs.Total.{totalFrom}
 use Rattle.refusals.specs.Refusals.{answerOf, inRange, firstOutside, anyOutside}
 use Rattle.depgraph.specs.Graph.{isParent, reach, isAbove, isAncestor, isCyclic}
 use Rattle.chunking.specs.Chunks.{swallow, chunksAfter, lengthsOf, chunkLengths, rates}
-use Rattle.postpass.specs.Pass.{dependsOn, settle, groupsAfter, flat, onePass, backPass, forwardPass}
-use Rattle.postlin.specs.PostLinearize.{postLinearize}
+use Rattle.passes.specs.Pass.{dependsOn, settle, groupsAfter, flat, onePass, backPass, forwardPass}
+use Rattle.post_linearize.specs.PostLinearize.{postLinearize}
 use Rattle.candidates.specs.Candidates.{givenBack, ancestorSum, remaining, candidate, remainingAncestors, fewerAncestors, appendAncestors, appendFor, rounds, ancestorOrder}
-use Rattle.output.specs.Output.{cut, chunksOf, chunkRate, chunkAbove, chunkReady, memberReady, inside, putOut, nextChunk, chunksOut, outputOrder}
+use Rattle.output_order.specs.Output.{cut, chunksOf, chunkRate, chunkAbove, chunkReady, memberReady, inside, putOut, nextChunk, chunksOut, outputOrder}
 use Rattle.linearize.specs.Linearize.{refusals, linearOrder}
 use Rattle.linearize.specs.Cases.{Case, Says, clusterChunks, orders, refuses, cuts, right, cases}
 

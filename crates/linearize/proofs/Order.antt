@@ -16,15 +16,15 @@ use Rattle.depgraph.specs.Graph.{isCyclic}
 use Rattle.depgraph.proofs.Theorems.{ancestor-refl}
 use Rattle.refusals.specs.Refusals.{answerOf, differ₃, tooMany, short, firstOutside}
 use Rattle.refusals.proofs.Laws.{given, passed-over, none-left, outside-some, outside-none}
-use Rattle.postpass.specs.Pass.{backPass, forwardPass}
-use Rattle.postpass.proofs.Theorems.{back-same, forward-same}
-use Rattle.postlin.specs.PostLinearize.{postLinearize}
-use Rattle.postlin.proofs.Checks.{ancestors-are, descendants-are}
+use Rattle.passes.specs.Pass.{backPass, forwardPass}
+use Rattle.passes.proofs.Theorems.{back-same, forward-same}
+use Rattle.post_linearize.specs.PostLinearize.{postLinearize}
+use Rattle.post_linearize.proofs.Checks.{ancestors-are, descendants-are}
 use Rattle.candidates.specs.Candidates
 use Rattle.candidates.specs.Candidates.{ancestorOrder}
 use Rattle.candidates.proofs.Theorems.{as-many}
-use Rattle.output.specs.Output
-use Rattle.output.specs.Output.{outputOrder}
+use Rattle.output_order.specs.Output
+use Rattle.output_order.specs.Output.{outputOrder}
 use Rattle.linearize.specs.Linearize.{refusals, linearOrder}
 use Rattle.linearize.specs.Steps.{stepsOf, Ready}
 

@@ -12,9 +12,9 @@ use Rattle.depgraph.proofs.Theorems.{ancestor-refl, ancestor-trans, fewer}
 use Rattle.candidates.specs.Candidates.{ancestorOrder}
 use Rattle.candidates.proofs.Theorems.{each-below, none-twice, every-member, after-ancestors}
 use Rattle.txset.proofs.Lists.{After}
-use Rattle.postlin.specs.PostLinearize.{postLinearize}
-use Rattle.postlin.proofs.Theorems.{post-same, post-after}
-use Rattle.output.proofs.Theorems.{out-below, out-once, out-after, out-every, out-length}
+use Rattle.post_linearize.specs.PostLinearize.{postLinearize}
+use Rattle.post_linearize.proofs.Theorems.{post-same, post-after}
+use Rattle.output_order.proofs.Theorems.{out-below, out-once, out-after, out-every, out-length}
 use Rattle.linearize.specs.Linearize.{linearOrder}
 
 module _ (fs : List ℤ) (ss ps : List ℕ) where

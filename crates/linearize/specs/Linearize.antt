@@ -7,8 +7,8 @@ use Rattle.depgraph.specs.Graph.{isAncestor, isCyclic}
 use Rattle.refusals.specs.declared.Reply.{Reply}
 use Rattle.refusals.specs.Refusals.{Line, line, replyOf, keptUnless, differ₃, tooMany, short, anyOutside}
 use Rattle.candidates.specs.Candidates.{ancestorOrder}
-use Rattle.output.specs.Output.{outputOrder}
-use Rattle.postlin.specs.PostLinearize.{postLinearize}
+use Rattle.output_order.specs.Output.{outputOrder}
+use Rattle.post_linearize.specs.PostLinearize.{postLinearize}
 
 -- the order of a cluster
 unfoldable pub linearOrder : List ℤ → List ℕ → List ℕ → List ℕ

@@ -6,9 +6,9 @@ use mathlib.Core.List.{List}
 use lib.ListN.{length}
 use lib.IntN.{ℤ}
 use Rattle.txset.specs.Sets.{positions, mem, setAt}
-use Rattle.postpass.specs.Pass.{backPass, forwardPass}
+use Rattle.passes.specs.Pass.{backPass, forwardPass}
 use Rattle.candidates.specs.Candidates.{ancestorOrder}
-use Rattle.output.specs.Output.{outputOrder}
+use Rattle.output_order.specs.Output.{outputOrder}
 
 -- the four steps, over any ancestors and descendants
 unfoldable pub stepsOf : List ℤ → List ℕ → (ℕ → ℕ → Bool) → (ℕ → ℕ → Bool) → List ℕ

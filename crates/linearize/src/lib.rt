@@ -67,7 +67,7 @@ fn order_members<'g>(
     ensures { λ r. ⌜ now (room .exit) ≡ stepsOf (now (fees .entry)) (now (sizes .entry)) (λ i. mem (setAt (now (ancestors .entry)) i)) (λ i. mem (setAt (now (descendants .entry)) i)) ++ drop r (now (room .entry)) ⌝ }
 {
     candidates::ancestor_order(fees, sizes, ancestors, order);
-    postpass::back_pass(fees, sizes, descendants, order);
-    postpass::forward_pass(fees, sizes, ancestors, order);
-    output::output_order(fees, sizes, ancestors, order, room)
+    passes::back_pass(fees, sizes, descendants, order);
+    passes::forward_pass(fees, sizes, ancestors, order);
+    output_order::output_order(fees, sizes, ancestors, order, room)
 }

@@ -1,6 +1,6 @@
 // post_linearize under its exported name.
 ghost use mathlib.Core.Path.{_≡_};
-ghost use Rattle.postlin.specs.PostLinearize.{reply, orderAfter};
+ghost use Rattle.post_linearize.specs.PostLinearize.{reply, orderAfter};
 use refusals::Reply;
 
 #[no_mangle]
@@ -13,5 +13,5 @@ pub extern "C" fn yaghrudil_post_linearize(
     ensures { λ r. ⌜ r ≡ reply (now (fees .entry)) (now (sizes .entry)) (now (parents .entry)) (now (order .entry)) ⌝ }
     ensures { λ _. ⌜ now (order .exit) ≡ orderAfter (now (fees .entry)) (now (sizes .entry)) (now (parents .entry)) (now (order .entry)) ⌝ }
 {
-    postlin::post_linearize(fees, sizes, parents, order)
+    post_linearize::post_linearize(fees, sizes, parents, order)
 }

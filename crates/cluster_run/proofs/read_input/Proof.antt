@@ -6,8 +6,8 @@ use mathlib.Core.Bool.{false}
 use lib.ListN.{length, take}
 use lib.Seq.{length-take-le}
 use borrow.Author.Needs.{needs}
-use Rattle.cluster_input.specs.Lines.{before}
-use Rattle.cluster_input.specs.Calls.{isDecided}
+use Rattle.cluster_reader.specs.Lines.{before}
+use Rattle.cluster_reader.specs.Calls.{isDecided}
 use Rattle.cluster_run.proofs.Bounds.{bytes-within}
 use Rattle.cluster_run.proofs.read_input.Statement.{statement}
 use Rattle.cluster_run.proofs.read_input.Tie as tie

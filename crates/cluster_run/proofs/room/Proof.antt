@@ -3,7 +3,7 @@ use mathlib.Core.Path.{_≡_, sym}
 use mathlib.Core.List.{List}
 use Prim.Native.Nat.{ℕ, _<_}
 use lib.ListN.{length, replicate, length-replicate}
-use Rattle.cluster_input.specs.Lines.{longestText}
+use Rattle.cluster_reader.specs.Lines.{longestText}
 use Rattle.cluster_run.proofs.room.Statement.{statement}
 use Rattle.cluster_run.proofs.room.Tie as tie
 

@@ -9,7 +9,7 @@ use borrow.Author.Needs.{needs}
 use Rattle.txset.specs.Sets.{positions}
 use Rattle.depgraph.specs.Closed.{Closed}
 use Rattle.refusals.specs.Refusals.{answerOf, success, differ₃, firstOutside}
-use Rattle.postlin.proofs.Checks.{sizes-differ, parents-differ, all-alike, whole, refused, wrote}
+use Rattle.post_linearize.proofs.Checks.{sizes-differ, parents-differ, all-alike, whole, refused, wrote}
 use Rattle.linearize.specs.Linearize.{refusals, reply, roomAfter}
 use Rattle.linearize.proofs.Order.{first-1, first-2, first-11, first-3, first-4, first-none, ready, linear-done}
 use Rattle.linearize.proofs.Few.{few-acyclic, none-order, alone-order, none-room, alone-room}

@@ -1,0 +1,52 @@
+-- A text that is longer than the lines of the largest cluster: whatever stands in it, it is no cluster. Assumes nothing.
+use mathlib.Core.Path.{_≡_, refl, _∙_}
+use mathlib.Core.Bool.{Bool, true, false, _&&_}
+use mathlib.Core.List.{List, [], _∷_, _++_}
+use Prim.Native.Nat.{ℕ, zero, suc, _+_, _*_, _≤_, _<_}
+use native.Mathlib.Omega.{arith}
+use lib.ListN.{length, drop, length-drop}
+use lib.IntN.{ℤ}
+use Rattle.feefrac.specs.Rate.{pick}
+use Rattle.cluster_reader.specs.declared.First.the-variants as count
+use Rattle.cluster_reader.specs.declared.FirstLine.{FirstLine}
+use Rattle.cluster_reader.specs.Numerals.{numberOf, feeOf}
+use Rattle.cluster_reader.specs.Lines.{behind, longestLine, longestText, isField, valueOf}
+use Rattle.cluster_reader.specs.Reading.{feeKey, sizeKey, parentsKey, isNumber, isFee, parts, areNumbers}
+use Rattle.cluster_reader.specs.Reading.{isMember, memberFee, memberSize, memberParents, nextMember, Read, refused, members, read}
+use Rattle.cluster_reader.specs.Steps.{firstOf}
+use Rattle.txset.proofs.Bools.{and-both}
+use Rattle.cluster_reader.proofs.Places.{field-passes}
+use Rattle.cluster_reader.proofs.Reading.{read-count}
+
+-- a member's three lines pass at most three lines' bytes
+member-passes : (xs : List ℕ) → isMember xs ≡ true → length xs ≤ 3 * longestLine + length (nextMember xs)
+unfolding isMember
+member-passes xs e =
+    let size = behind 10 xs in
+    let parents = behind 10 size in
+    let p = and-both (isField feeKey xs && isFee (feeOf (valueOf feeKey xs))) _ e in
+    let q = and-both (isField sizeKey size && isNumber (numberOf (valueOf sizeKey size))) _ (p .1) in
+    let a = field-passes feeKey xs (and-both (isField feeKey xs) _ (p .0) .0) in
+    let b = field-passes sizeKey size (and-both (isField sizeKey size) _ (q .0) .0) in
+    let c = field-passes parentsKey parents (and-both (isField parentsKey parents) _ (q .1) .0) in
+    omega arith
+
+-- so where more stands there than k members can have, something is behind them, or one of them is not of its form
+members-full : (k : ℕ) (xs : List ℕ) (fs : List ℤ) (ss ps : List ℕ) → k * (3 * longestLine) < length xs → members k xs fs ss ps ≡ refused 13
+unfolding members
+members-full zero [] fs ss ps l = absurd (omega arith)
+members-full zero (x ∷ xs) fs ss ps l = refl
+members-full (suc k) xs fs ss ps l =
+    go (isMember xs) refl
+    (λ e. members-full k (nextMember xs) (fs ++ (memberFee xs ∷ [])) (ss ++ (memberSize xs ∷ [])) (ps ++ (memberParents xs ∷ []))
+    (omega (arith, member-passes xs e)))
+  where
+    go : {r : Read} (b : Bool) → isMember xs ≡ b → (isMember xs ≡ true → r ≡ refused 13) → pick b r (refused 13) ≡ refused 13
+    go true e f = f e
+    go false e f = refl
+
+-- a first line that gives a number of members, in a text that has more than those can have
+pub count-full : (text : List ℕ) (l : FirstLine) → firstOf text ≡ count.Count l → longestText < length text → read text ≡ refused 13
+count-full text l h long =
+    let c = read-count text l h in
+    c .is ∙ members-full (l .n) (drop (l .next) text) [] [] [] (omega (arith, c .few, c .near, length-drop (l .next) text))

@@ -1,0 +1,65 @@
+-- How long the lists of a cluster are that was read: at most 64, and the three alike. Assumes nothing.
+use mathlib.Core.Path.{_≡_, refl}
+use mathlib.Core.Bool.{_&&_}
+use mathlib.Core.List.{List, [], _∷_, _++_}
+use Prim.Native.Nat.{ℕ, zero, suc, _+_, _≤_}
+use native.Mathlib.Nat.{zero-add}
+use native.Mathlib.Omega.{arith}
+use lib.Dec.{ltb}
+use lib.ListN.{length, length-append}
+use lib.IntN.{ℤ}
+use borrow.Author.Tests.{ltb-false}
+use Rattle.txset.specs.Sets.{positions}
+use Rattle.cluster_reader.specs.Numerals.{isNil, numberOf}
+use Rattle.cluster_reader.specs.Lines.{behind, isField, valueOf}
+use Rattle.cluster_reader.specs.Reading.{nKey, isNumber, numberIn, isMember, memberFee, memberSize, memberParents, nextMember}
+use Rattle.cluster_reader.specs.Reading.{refused, cluster, members, read}
+use Rattle.cluster_reader.proofs.Picks.{first, second}
+
+-- three lists of n
+record Long (n : ℕ) (fs : List ℤ) (ss ps : List ℕ) : Type 0 where
+  fees : length fs ≡ n
+  sizes : length ss ≡ n
+  parents : length ps ≡ n
+
+-- a refusal is no cluster
+not-read : {k : ℕ} {fs : List ℤ} {ss ps : List ℕ} → refused k ≡ cluster fs ss ps → ⊥
+not-read e = let z : _≡_ {A = ℕ} 0 1 = cc in omega arith
+
+-- k members more
+members-long : (k : ℕ) (xs : List ℕ) {n : ℕ} (fs : List ℤ) (ss ps : List ℕ) {gs : List ℤ} {ts qs : List ℕ} → Long n fs ss ps
+    → members k xs fs ss ps ≡ cluster gs ts qs → Long (k + n) gs ts qs
+unfolding members
+members-long zero xs {n} fs ss ps {gs} {ts} {qs} h e =
+    let same = first (isNil xs) e not-read .1 in
+    let f : gs ≡ fs = cc in
+    let s : ts ≡ ss = cc in
+    let p : qs ≡ ps = cc in
+    rw (f, s, p, zero-add) h
+members-long (suc k) xs {n} fs ss ps h e =
+    let more : Long (suc n) (fs ++ (memberFee xs ∷ [])) (ss ++ (memberSize xs ∷ [])) (ps ++ (memberParents xs ∷ [])) =
+    record { fees = one fs (memberFee xs) (h .fees); sizes = one ss (memberSize xs) (h .sizes); parents = one ps (memberParents xs) (h .parents) } in
+    let r = members-long k (nextMember xs) _ _ _ more (first (isMember xs) e not-read .1) in
+    record { fees = omega (arith, r .fees); sizes = omega (arith, r .sizes); parents = omega (arith, r .parents) }
+  where
+    one : {A : Type 0} {m : ℕ} (l : List A) (x : A) → length l ≡ m → length (l ++ (x ∷ [])) ≡ suc m
+    one l x q = omega (arith, length-append l (x ∷ []))
+
+-- a cluster that was read has at most 64 members, each with its size and its parents
+pub record Whole (fs : List ℤ) (ss ps : List ℕ) : Type 0 where
+  pub few : length fs ≤ positions
+  pub sizes : length ss ≡ length fs
+  pub parents : length ps ≡ length fs
+
+pub read-whole : (text : List ℕ) {fs : List ℤ} {ss ps : List ℕ} → read text ≡ cluster fs ss ps → Whole fs ss ps
+unfolding read
+read-whole text e =
+    let n = numberIn (numberOf (valueOf nKey text)) in
+    let form = first (isField nKey text && isNumber (numberOf (valueOf nKey text))) e not-read .1 in
+    let count = second (ltb positions n) form not-read in
+    let r = members-long n (behind 10 text) {n = 0} [] [] [] (record { fees = refl; sizes = refl; parents = refl }) (count .1) in
+    record {
+      few = omega (arith, r .fees, ltb-false positions n (count .0));
+      sizes = omega (arith, r .fees, r .sizes);
+      parents = omega (arith, r .fees, r .parents);
+    }

@@ -1,0 +1,105 @@
+-- Document 01, "The cluster program": what it reads. "`n=`, then for each position `fee=`, `size=`, `parents=` (commas, may be empty,
+-- repeats count once)". Assumes nothing.
+use Prim.Native.Nat.{ℕ, zero, suc, _^_}
+use mathlib.Core.Bool.{Bool, true, false, _&&_}
+use mathlib.Core.List.{List, [], _∷_, _++_}
+use lib.Dec.{eqb, ltb}
+use lib.Bits.{bitOr}
+use lib.IntN.{ℤ, pos}
+use Rattle.feefrac.specs.Rate.{pick}
+use Rattle.txset.specs.Lists.{allOf}
+use Rattle.txset.specs.Sets.{positions}
+use Rattle.cluster_reader.specs.declared.numerals.Number.{Number}
+use Rattle.cluster_reader.specs.declared.numerals.Number.the-variants.{Value, Malformed}
+use Rattle.cluster_reader.specs.declared.numerals.Fee.{Fee}
+use Rattle.cluster_reader.specs.declared.numerals.Fee.the-variants.{Sats, Wrong}
+use Rattle.cluster_reader.specs.Numerals.{isNil, numberOf, feeOf}
+use Rattle.cluster_reader.specs.Lines.{behind, isField, valueOf}
+
+-- the keys, as bytes: "n=", "fee=", "size=", "parents="
+abbrev pub nKey : List ℕ
+nKey = 110 ∷ 61 ∷ []
+
+abbrev pub feeKey : List ℕ
+feeKey = 102 ∷ 101 ∷ 101 ∷ 61 ∷ []
+
+abbrev pub sizeKey : List ℕ
+sizeKey = 115 ∷ 105 ∷ 122 ∷ 101 ∷ 61 ∷ []
+
+abbrev pub parentsKey : List ℕ
+parentsKey = 112 ∷ 97 ∷ 114 ∷ 101 ∷ 110 ∷ 116 ∷ 115 ∷ 61 ∷ []
+
+-- whether a number is of its form, and its value
+abbrev pub isNumber : Number → Bool
+isNumber (Value v) = true
+isNumber Malformed = false
+
+abbrev pub numberIn : Number → ℕ
+numberIn (Value v) = v
+numberIn Malformed = 0
+
+abbrev pub isFee : Fee → Bool
+isFee (Sats z) = true
+isFee Wrong = false
+
+abbrev pub feeIn : Fee → ℤ
+feeIn (Sats z) = z
+feeIn Wrong = pos 0
+
+-- a list cut at its commas (byte 44)
+unfoldable pub partsFrom : List ℕ → List ℕ → List (List ℕ)
+partsFrom part [] = part ∷ []
+partsFrom part (b ∷ bs) = pick (eqb b 44) (part ∷ partsFrom [] bs) (partsFrom (part ++ (b ∷ [])) bs)
+
+-- "commas, may be empty": the parts of a list that is not empty
+unfoldable pub parts : List ℕ → List (List ℕ)
+parts [] = []
+parts (b ∷ bs) = partsFrom [] (b ∷ bs)
+
+unfoldable pub areNumbers : List (List ℕ) → Bool
+areNumbers ls = allOf (λ l. isNumber (numberOf l)) ls
+
+-- "repeats count once": the set of the positions named, as a word; a position that no set can hold is left out
+unfoldable pub wordOf : ℕ → List (List ℕ) → ℕ
+wordOf w [] = w
+wordOf w (l ∷ ls) = wordOf (pick (ltb (numberIn (numberOf l)) positions) (bitOr w (2 ^ numberIn (numberOf l))) w) ls
+
+-- whether a text starts with the three lines of a member
+unfoldable pub isMember : List ℕ → Bool
+isMember xs =
+    (isField feeKey xs && isFee (feeOf (valueOf feeKey xs)))
+    && ((isField sizeKey (behind 10 xs) && isNumber (numberOf (valueOf sizeKey (behind 10 xs))))
+    && (isField parentsKey (behind 10 (behind 10 xs)) && areNumbers (parts (valueOf parentsKey (behind 10 (behind 10 xs))))))
+
+-- what the three lines say
+abbrev pub memberFee : List ℕ → ℤ
+memberFee xs = feeIn (feeOf (valueOf feeKey xs))
+
+abbrev pub memberSize : List ℕ → ℕ
+memberSize xs = numberIn (numberOf (valueOf sizeKey (behind 10 xs)))
+
+abbrev pub memberParents : List ℕ → ℕ
+memberParents xs = wordOf 0 (parts (valueOf parentsKey (behind 10 (behind 10 xs))))
+
+abbrev pub nextMember : List ℕ → List ℕ
+nextMember xs = behind 10 (behind 10 (behind 10 xs))
+
+-- what was read: a refusal's number, or the members
+pub data Read : Type 0 where
+  refused : ℕ → Read
+  cluster : List ℤ → List ℕ → List ℕ → Read
+
+-- k members more, "anything after the last line is 13"
+unfoldable pub members : ℕ → List ℕ → List ℤ → List ℕ → List ℕ → Read
+members zero xs fs ss ps = pick (isNil xs) (cluster fs ss ps) (refused 13)
+members (suc k) xs fs ss ps =
+    pick (isMember xs)
+    (members k (nextMember xs) (fs ++ (memberFee xs ∷ [])) (ss ++ (memberSize xs ∷ [])) (ps ++ (memberParents xs ∷ [])))
+    (refused 13)
+
+-- "An n above 64 gives 2 without reading on."
+unfoldable pub read : List ℕ → Read
+read xs =
+    pick (isField nKey xs && isNumber (numberOf (valueOf nKey xs)))
+    (pick (ltb positions (numberIn (numberOf (valueOf nKey xs)))) (refused 2) (members (numberIn (numberOf (valueOf nKey xs))) (behind 10 xs) [] [] []))
+    (refused 13)

@@ -1,0 +1,157 @@
+-- What the program prints, by what its parts answer: a text that was read, and the call of linearize. Assumes nothing.
+use Prim.Native.Nat.{ℕ, _≤_}
+use native.Mathlib.Omega.{arith}
+use mathlib.Core.Path.{_≡_, refl, sym, ap, ap₂, _∙_}
+use mathlib.Core.Bool.{Bool, true, false, _&&_}
+use mathlib.Core.List.{List, _++_}
+use lib.Dec.{eqb, leb}
+use lib.ListN.{length, take, drop, length-append}
+use lib.Seq.{take-at}
+use lib.IntN.{ℤ}
+use borrow.Author.Tests.{le-ltb, le-leb, ne-eqb, eqb-true}
+use Rattle.feefrac.specs.Rate.{pick}
+use Rattle.txset.specs.Sets.{positions}
+use Rattle.refusals.specs.declared.Reply.{Reply}
+use Rattle.refusals.specs.Refusals.{Line, answerOf, replyOf, success, refusal}
+use Rattle.refusals.proofs.Laws.{succeeds, writes}
+use Rattle.linearize.specs.Linearize.{refusals, linearOrder, reply, roomAfter}
+use Rattle.cluster_reader.specs.declared.Input.{Input}
+use Rattle.cluster_reader.specs.declared.Input.the-variants.{Members, Refused}
+use Rattle.cluster_reader.specs.Reading.{Read, refused, cluster, read}
+use Rattle.cluster_reader.specs.Calls.{inputOf, feesAfter, sizesAfter, parentsAfter}
+use Rattle.cluster_reader.proofs.Lengths.{read-whole}
+use Rattle.cluster_writer.specs.Writing.{refusalText, successText}
+use Rattle.cluster_writer.specs.Calls.{printed, few, successPrinted, successRoom}
+use Rattle.output_order.specs.Output.{orderLengths}
+use Rattle.cluster_respond.specs.Program.{clusterText, textOf, response}
+
+-- a room starts with a list of n
+pub record Starts {A : Type 0} (xs room : List A) (n : ℕ) : Type 0 where
+  pub count : n ≡ length xs
+  pub within : n ≤ length room
+  pub is : take n room ≡ xs
+
+pub starts : {A : Type 0} (xs rest : List A) {room : List A} {n : ℕ} → n ≡ length xs → room ≡ xs ++ rest → Starts xs room n
+starts xs rest {n = n} e f =
+    rw f (record { count = e; within = omega (arith, length-append xs rest); is = take-at xs rest n (sym e) })
+
+-- the part that is lent has n elements
+pub part-long : {A : Type 0} {xs room : List A} {n : ℕ} → Starts xs room n → n ≡ length (take n room)
+part-long h = h .count ∙ sym (ap length (h .is))
+
+-- what is printed as one text is printed as its equal
+pub prints : {t u : List ℕ} {r : ℕ} {new : List ℕ} (old : List ℕ) → t ≡ u → r ≡ length t → new ≡ printed t old → (r ≡ length u) × (new ≡ printed u old)
+prints old e p q = (p ∙ ap length e, q ∙ ap (λ (x : List ℕ). printed x old) e)
+
+-- a reply's answer is the number of the first line that holds
+answered : (ls : List Line) (n : ℕ) → replyOf ls n .answer ≡ answerOf ls
+unfolding replyOf
+answered ls n = go (eqb (answerOf ls) 0) refl
+  where
+    go : (b : Bool) → eqb (answerOf ls) 0 ≡ b → pick b (success n) (refusal (answerOf ls)) .answer ≡ answerOf ls
+    go true e = sym (eqb-true (answerOf ls) 0 e)
+    go false e = refl
+
+-- ---- linearize has answered
+
+-- in a room with a place for each member
+module _
+    (fs : List ℤ)
+    (ss ps room : List ℕ)
+    (wide : length fs ≤ length room)
+    (sizes : length ss ≡ length fs)
+    (r : Reply)
+    (is : r ≡ reply fs ss ps room) where
+  -- its answer is that in one as long as the members are many
+  same-answer : r .answer ≡ answerOf (refusals fs ss ps ss)
+  unfolding reply refusals
+  same-answer =
+      ap (λ (x : Reply). x .answer) is
+      ∙ answered (refusals fs ss ps room) (length (linearOrder fs ss ps))
+      ∙ rw (le-ltb (length room) (length fs) wide, le-ltb (length ss) (length fs) (omega arith))
+
+  pub refused-text : (r .answer ≡ 0 → ⊥) → refusalText (r .answer) ≡ clusterText fs ss ps
+  unfolding clusterText
+  refused-text n = rw (← same-answer, ne-eqb (r .answer) 0 n)
+
+  module _ (e : r .answer ≡ 0) where
+    none : answerOf (refusals fs ss ps room) ≡ 0
+    unfolding reply
+    none = sym (answered (refusals fs ss ps room) (length (linearOrder fs ss ps))) ∙ sym (ap (λ (x : Reply). x .answer) is) ∙ e
+
+    -- the order stands at the room's start
+    pub ordered : (new : List ℕ) → new ≡ roomAfter fs ss ps room → Starts (linearOrder fs ss ps) new (r .written)
+    unfolding reply roomAfter
+    ordered new o =
+        starts (linearOrder fs ss ps) (drop (length (linearOrder fs ss ps)) room)
+        (ap (λ (x : Reply). x .written) (is ∙ sym (succeeds (refusals fs ss ps room) (length (linearOrder fs ss ps)) none)))
+        (o ∙ sym (writes (refusals fs ss ps room) room (linearOrder fs ss ps ++ drop (length (linearOrder fs ss ps)) room) none))
+
+    -- it is printed with the lengths of its chunks
+    pub success-text : (order lens out out' : List ℕ) (k : ℕ) → order ≡ linearOrder fs ss ps → lens ≡ orderLengths fs ss order
+        → length order ≤ positions → length lens ≤ positions → k ≡ successPrinted fs ss order lens → out' ≡ successRoom fs ss order lens out
+        → (k ≡ length (clusterText fs ss ps)) × (out' ≡ printed (clusterText fs ss ps) out)
+    unfolding clusterText successPrinted successRoom few
+    success-text order lens out out' k o l x y p q =
+        let fit : (leb (length order) positions && leb (length lens) positions) ≡ true =
+        ap₂ _&&_ (le-leb (length order) positions x) (le-leb (length lens) positions y) in
+        let text : successText fs ss order lens ≡ clusterText fs ss ps = rw (l, o, ← same-answer, e) in
+        prints out text (p ∙ rw fit) (q ∙ rw fit)
+
+-- ---- the input was read
+
+-- three arrays start with the n members that a text gives
+pub record Given (text : List ℕ) (n : ℕ) (fees : List ℤ) (sizes parents : List ℕ) : Type 0 where
+  pub fs : List ℤ
+  pub ss : List ℕ
+  pub ps : List ℕ
+  pub is : read text ≡ cluster fs ss ps
+  pub few : n ≤ positions
+  pub fees-are : Starts fs fees n
+  pub sizes-are : Starts ss sizes n
+  pub parents-are : Starts ps parents n
+
+module _ (text : List ℕ) {i : Input} (e : i ≡ inputOf (read text)) where
+  -- it was refused
+  pub refused-input : {k : ℕ} → i ≡ Refused k → refusalText k ≡ response text
+  unfolding response
+  refused-input {k} f = go (read text) (sym e ∙ f)
+    where
+      go : (r : Read) → inputOf r ≡ Refused k → refusalText k ≡ textOf r
+      go (refused j) h = ap refusalText (let z : k ≡ j = cc in z)
+      go (cluster fs ss ps) h = let z : _≡_ {A = ℕ} 0 1 = cc in absurd (omega arith)
+
+  -- it gave n members, and the arrays start with them
+  module _
+      {n : ℕ}
+      (f : i ≡ Members n)
+      (fees₀ fees : List ℤ)
+      (sizes₀ parents₀ sizes parents : List ℕ)
+      (x : fees ≡ feesAfter (read text) fees₀)
+      (y : sizes ≡ sizesAfter (read text) sizes₀)
+      (z : parents ≡ parentsAfter (read text) parents₀) where
+    pub members-read : Given text n fees sizes parents
+    members-read = go (read text) refl (sym e ∙ f) x y z
+      where
+        go : (r : Read) → read text ≡ r → inputOf r ≡ Members n → fees ≡ feesAfter r fees₀ → sizes ≡ sizesAfter r sizes₀ → parents ≡ parentsAfter r parents₀
+            → Given text n fees sizes parents
+        go (refused k) is h a b c = let z : _≡_ {A = ℕ} 0 1 = cc in absurd (omega arith)
+        go (cluster fs ss ps) is h a b c =
+            let w = read-whole text is in
+            let count : n ≡ length fs = cc in
+            record {
+              fs = fs;
+              ss = ss;
+              ps = ps;
+              is = is;
+              few = omega (arith, w .few);
+              fees-are = starts fs (drop (length fs) fees₀) count a;
+              sizes-are = starts ss (drop (length fs) sizes₀) (omega (arith, w .sizes)) b;
+              parents-are = starts ps (drop (length fs) parents₀) (omega (arith, w .parents)) c;
+            }
+
+-- what is printed for the members is the response to the text
+pub given-text : {text : List ℕ} {n : ℕ} {fees : List ℤ} {sizes parents : List ℕ} → Given text n fees sizes parents
+    → clusterText (take n fees) (take n sizes) (take n parents) ≡ response text
+unfolding response
+given-text g = rw (g .fees-are .is, g .sizes-are .is, g .parents-are .is, g .is)

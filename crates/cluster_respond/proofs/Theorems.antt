@@ -1,0 +1,13 @@
+-- For readers: what is printed for a text that is too long shows at its start. No proof of a function cites this. Assumes nothing.
+use mathlib.Core.Path.{_≡_, ap}
+use mathlib.Core.List.{List, _++_}
+use Prim.Native.Nat.{ℕ, _<_}
+use lib.ListN.{length}
+use Rattle.cluster_reader.specs.Lines.{longestText}
+use Rattle.cluster_reader.proofs.Theorems.{full-decides}
+use Rattle.cluster_respond.specs.Program.{textOf, response}
+
+-- a start that is longer than all lines of the largest cluster gives the response, whatever stands behind it
+pub full-responds : (start rest : List ℕ) → longestText < length start → response (start ++ rest) ≡ response start
+unfolding response
+full-responds start rest l = ap textOf (full-decides start rest l)

@@ -1,0 +1,265 @@
+// What the cluster program prints, written to the start of a room; what stands behind it there stays.
+ghost use mathlib.Core.Path.{_≡_};
+ghost use Prim.Native.Nat.{_+_, _*_, _/_, _%_, _≤_, _<_, min};
+ghost use lib.ListN.{length};
+ghost use Rattle.feeset.specs.Total.{total};
+ghost use Rattle.cluster_writer.specs.Writing.{decimal as Text·decimal, signed as Text·signed, textLine, orderKey, rateKey, commas};
+ghost use Rattle.cluster_writer.specs.Writing.{chunkLines, allChunkLines, refusalText, shownRate};
+ghost use Rattle.cluster_writer.specs.Calls.{printed, successPrinted, successRoom};
+ghost use Rattle.cluster_writer.specs.Steps.{Room, Wrote, item, held};
+use feefrac::FeeFrac;
+use txset::POSITIONS;
+
+// The answer line alone.
+pub fn write_refusal(number: u64, out: &mut [u8; 8192]) -> usize
+    ensures { λ r. ⌜ r ≡ length (refusalText number) ⌝ }
+    ensures { λ _. ⌜ now (out .exit) ≡ printed (refusalText number) (now (out .entry)) ⌝ }
+{
+    number_line(b"answer=", number, out, 0)
+}
+
+// The answer line, the order and the lines of its chunks, whose lengths are `lens`. Where there are more than 64 members or chunks it
+// writes nothing and answers 0.
+pub fn write_success(
+    fees: &[i64],
+    sizes: &[u64],
+    order: &[usize],
+    lens: &[usize],
+    out: &mut [u8; 8192],
+) -> usize
+    ensures { λ r. ⌜ r ≡ successPrinted (now (fees .entry)) (now (sizes .entry)) (now (order .entry)) (now (lens .entry)) ⌝ }
+    ensures { λ _. ⌜ now (out .exit) ≡ successRoom (now (fees .entry)) (now (sizes .entry)) (now (order .entry)) (now (lens .entry)) (now (out .entry)) ⌝ }
+{
+    if POSITIONS < order.len() {
+        return 0;
+    }
+    if POSITIONS < lens.len() {
+        return 0;
+    }
+    let mut at = number_line(b"answer=", 0, out, 0);
+    at = order_line(order, out, at);
+    chunk_lines(fees, sizes, order, lens, out, at)
+}
+
+fn order_line(order: &[usize], out: &mut [u8], from: usize) -> usize
+    requires { ⌜ Room (textLine orderKey (commas (now order))) from (now out) ⌝ }
+    ensures { λ r. ⌜ Wrote (textLine orderKey (commas (now (order .entry)))) from (now (out .entry)) (now (out .exit)) r ⌝ }
+{
+    let mut at = bytes(b"order=", out, from);
+    at = numbers(order, out, at);
+    bytes(b"\n", out, at)
+}
+
+// The numbers with commas between them.
+fn numbers(order: &[usize], out: &mut [u8], from: usize) -> usize
+    requires { ⌜ Room (commas (now order)) from (now out) ⌝ }
+    ensures { λ r. ⌜ Wrote (commas (now (order .entry))) from (now (out .entry)) (now (out .exit)) r ⌝ }
+{
+    let mut at = from;
+    let mut place: usize = 0;
+    while place < order.len() {
+        at = number_at(place, order[place] as u64, out, at);
+        place += 1;
+    }
+    at
+}
+
+// The k-th of some numbers, a comma in front of each but the first.
+fn number_at(k: usize, number: u64, out: &mut [u8], at: usize) -> usize
+    requires { ⌜ Room (item k number) at (now out) ⌝ }
+    ensures { λ r. ⌜ Wrote (item k number) at (now (out .entry)) (now (out .exit)) r ⌝ }
+{
+    if k == 0 {
+        return decimal(number, out, at);
+    }
+    let next = bytes(b",", out, at);
+    decimal(number, out, next)
+}
+
+fn chunk_lines(
+    fees: &[i64],
+    sizes: &[u64],
+    order: &[usize],
+    lens: &[usize],
+    out: &mut [u8],
+    from: usize,
+) -> usize
+    requires { ⌜ Room (allChunkLines (now fees) (now sizes) (now lens) (now order)) from (now out) ⌝ }
+    ensures { λ r. ⌜ Wrote (allChunkLines (now (fees .entry)) (now (sizes .entry)) (now (lens .entry)) (now (order .entry))) from (now (out .entry)) (now (out .exit)) r ⌝ }
+{
+    let mut at = from;
+    let mut start: usize = 0;
+    let mut k: usize = 0;
+    while k < lens.len() {
+        let len = lens[k];
+        let end = chunk_end(start, len, order.len());
+        let rate = sum_of(fees, sizes, &order[start..end]);
+        at = one_chunk(len, rate, out, at);
+        start = end;
+        k += 1;
+    }
+    at
+}
+
+// Where a chunk of `len` members ends that starts at `start`, in an order of `count`.
+fn chunk_end(start: usize, len: usize, count: usize) -> usize
+    requires { ⌜ start ≤ count ⌝ }
+    ensures { λ r. ⌜ r ≡ min (start + len) count ⌝ }
+{
+    if len < count - start {
+        return start + len;
+    }
+    count
+}
+
+// A chunk's two lines.
+fn one_chunk(len: usize, rate: FeeFrac, out: &mut [u8], from: usize) -> usize
+    requires { ⌜ Room (chunkLines len rate) from (now out) ⌝ }
+    ensures { λ r. ⌜ Wrote (chunkLines len rate) from (now (out .entry)) (now (out .exit)) r ⌝ }
+{
+    let at = number_line(b"chunk=", len as u64, out, from);
+    rate_line(shown_rate(rate), out, at)
+}
+
+// The feerate sum of some members.
+fn sum_of(fees: &[i64], sizes: &[u64], members: &[usize]) -> FeeFrac
+    ensures { λ r. ⌜ r ≡ total (now (fees .entry)) (now (sizes .entry)) (now (members .entry)) ⌝ }
+{
+    let mut sum = FeeFrac::zero();
+    let mut i: usize = 0;
+    while i < members.len() {
+        sum = sum.add(FeeFrac::at(fees, sizes, members[i]));
+        i += 1;
+    }
+    sum
+}
+
+// fee × 4,000 / size rounded towards zero, 0 for size 0, held to the i64 range.
+pub fn shown_rate(rate: FeeFrac) -> i64
+    ensures { λ r. ⌜ r ≡ shownRate rate ⌝ }
+{
+    let size = rate.size;
+    if size == 0 {
+        return 0;
+    }
+    let fee = rate.fee;
+    if fee < 0 {
+        let less = 0 - (fee + 1);
+        let q = times_4000(less as u64 + 1, size);
+        if 9_223_372_036_854_775_807 < q {
+            return i64::MIN;
+        }
+        return 0 - (q as i64);
+    }
+    let q = times_4000(fee as u64, size);
+    if 9_223_372_036_854_775_807 < q {
+        return i64::MAX;
+    }
+    q as i64
+}
+
+// x × 4,000 / size, rounded down and held at 2^63: quotient and remainder are doubled and added to along the bits of 4,000.
+fn times_4000(x: u64, size: u64) -> u64
+    requires { ⌜ 0 < size ⌝ }
+    ensures { λ r. ⌜ r ≡ held (4000 * x / size) ⌝ }
+{
+    let whole = x / size;
+    let part = x % size;
+    let mut quotient: u64 = 0;
+    let mut rest: u64 = 0;
+    let mut bits: u64 = 4000;
+    let mut k: usize = 0;
+    while k < 12 {
+        quotient = plus(quotient, quotient, rest, rest, size);
+        rest = sum_below(rest, rest, size);
+        if bits / 2048 % 2 == 1 {
+            quotient = plus(quotient, whole, rest, part, size);
+            rest = sum_below(rest, part, size);
+        }
+        bits = bits * 2;
+        k += 1;
+    }
+    quotient
+}
+
+// quotient + more, and one more where the rests reach the size; held at 2^63.
+fn plus(quotient: u64, more: u64, rest: u64, part: u64, size: u64) -> u64
+    requires { ⌜ rest < size ⌝ }
+    requires { ⌜ part < size ⌝ }
+    ensures { λ r. ⌜ r ≡ held (quotient + more + (rest + part) / size) ⌝ }
+{
+    if 9_223_372_036_854_775_808 <= quotient {
+        return 9_223_372_036_854_775_808;
+    }
+    if 9_223_372_036_854_775_808 - quotient <= more {
+        return 9_223_372_036_854_775_808;
+    }
+    if size - rest <= part {
+        return quotient + more + 1;
+    }
+    quotient + more
+}
+
+// The sum of two rests, less the size where it reaches it.
+fn sum_below(rest: u64, part: u64, size: u64) -> u64
+    requires { ⌜ rest < size ⌝ }
+    requires { ⌜ part < size ⌝ }
+    ensures { λ r. ⌜ r ≡ (rest + part) % size ⌝ }
+{
+    if size - rest <= part {
+        return part - (size - rest);
+    }
+    rest + part
+}
+
+fn number_line(key: &[u8], number: u64, out: &mut [u8], from: usize) -> usize
+    requires { ⌜ Room (textLine (now key) (Text·decimal number)) from (now out) ⌝ }
+    ensures { λ r. ⌜ Wrote (textLine (now (key .entry)) (Text·decimal number)) from (now (out .entry)) (now (out .exit)) r ⌝ }
+{
+    let mut at = bytes(key, out, from);
+    at = decimal(number, out, at);
+    bytes(b"\n", out, at)
+}
+
+fn rate_line(rate: i64, out: &mut [u8], from: usize) -> usize
+    requires { ⌜ Room (textLine rateKey (Text·signed rate)) from (now out) ⌝ }
+    ensures { λ r. ⌜ Wrote (textLine rateKey (Text·signed rate)) from (now (out .entry)) (now (out .exit)) r ⌝ }
+{
+    let mut at = bytes(b"rate=", out, from);
+    at = signed(rate, out, at);
+    bytes(b"\n", out, at)
+}
+
+fn signed(number: i64, out: &mut [u8], at: usize) -> usize
+    requires { ⌜ Room (Text·signed number) at (now out) ⌝ }
+    ensures { λ r. ⌜ Wrote (Text·signed number) at (now (out .entry)) (now (out .exit)) r ⌝ }
+{
+    if number < 0 {
+        let next = bytes(b"-", out, at);
+        let less = 0 - (number + 1);
+        return decimal(less as u64 + 1, out, next);
+    }
+    decimal(number as u64, out, at)
+}
+
+// Appends bytes.
+fn bytes(from: &[u8], out: &mut [u8], at: usize) -> usize
+    requires { ⌜ Room (now from) at (now out) ⌝ }
+    ensures { λ r. ⌜ Wrote (now (from .entry)) at (now (out .entry)) (now (out .exit)) r ⌝ }
+{
+    let mut i: usize = 0;
+    while i < from.len() {
+        out[at + i] = from[i];
+        i += 1;
+    }
+    at + i
+}
+
+fn decimal(number: u64, out: &mut [u8], at: usize) -> usize
+    requires { ⌜ Room (Text·decimal number) at (now out) ⌝ }
+    ensures { λ r. ⌜ Wrote (Text·decimal number) at (now (out .entry)) (now (out .exit)) r ⌝ }
+{
+    let mut digits = [0u8; 20];
+    let k = io::decimal(number, &mut digits);
+    bytes(&digits[..k], out, at)
+}

@@ -1,0 +1,232 @@
+-- The chunks put out one after the other: `left` are those that are not taken yet. Assumes nothing.
+use mathlib.Core.Path.{_≡_, refl, sym, ap, ap₂, _∙_}
+use mathlib.Core.Bool.{Bool, true, false, not, _&&_, _||_, and-false, and-true, and-eq-true-iff}
+use mathlib.Core.List.{List, [], _∷_, _++_}
+use mathlib.Core.Logic.{⊎-elim}
+use Prim.Native.Nat.{ℕ, zero, suc, _+_, _-_, _≤_, _<_}
+use native.Mathlib.Omega.{arith}
+use lib.Dec.{eqb, ltb, leb}
+use lib.IntN.{ℤ}
+use lib.ListN.{length, drop}
+use borrow.Author.Tests.{ltb-true, le-leb, lt-leb}
+use Rattle.feefrac.specs.Rate.{pick}
+use Rattle.txset.specs.declared.TxSet.{TxSet}
+use Rattle.txset.specs.Below.{listFrom}
+use Rattle.txset.specs.Lists.{anyOf, elem}
+use Rattle.txset.specs.Sets.{positions, isPosition, mem, members, setAt}
+use Rattle.txset.proofs.Below.{clash, lt-or-ge, elem-out}
+use Rattle.txset.proofs.Ranges.{list-below}
+use Rattle.txset.proofs.Sets.{size-members, mem-empty}
+use Rattle.txset.proofs.Walk.{walk-done}
+use Rattle.feeset.specs.Scan.{best}
+use Rattle.feeset.proofs.Scan.{best-ext}
+use Rattle.output_order.specs.Output.{chunksOf, chunkAt, chunkAbove, chunkReady, inside, putOut, nextChunk, chunksOut, outputOrder, fits, written, filled}
+use Rattle.output_order.specs.Steps.{All, Cut, Surveyed}
+use Rattle.output_order.specs.Rounds.{sumAbove, covered, chunkOf, Standing, Placed, Put}
+use Rattle.output_order.proofs.Choices.{only-list, best-mem}
+use Rattle.output_order.proofs.Sizes.{position-and}
+use Rattle.output_order.proofs.Ready.{covered-ready}
+use Rattle.output_order.proofs.Putting.{ancs}
+
+-- ---- the definition, by what is chosen
+
+module _ (fs : List ℤ) (ss : List ℕ) (n : ℕ) (anc : ℕ → ℕ → Bool) (cs : List (List ℕ)) (gone out : List ℕ) where
+  chunks-step : (m : ℕ) (ks : List ℕ) → nextChunk fs ss n anc cs gone out ≡ ks
+      → chunksOut fs ss n anc cs (suc m) gone out ≡ chunksOut fs ss n anc cs m (ks ++ gone) (putOut fs ss n anc cs out ks)
+  unfolding chunksOut
+  chunks-step m ks e = ap (λ (l : List ℕ). chunksOut fs ss n anc cs m (l ++ gone) (putOut fs ss n anc cs out l)) e
+
+  -- where none is ready the rounds that are left add nothing
+  chunks-stop : (m : ℕ) → nextChunk fs ss n anc cs gone out ≡ [] → chunksOut fs ss n anc cs m gone out ≡ out
+  unfolding chunksOut putOut
+  chunks-stop zero e = refl
+  chunks-stop (suc m) e = chunks-step m [] e ∙ chunks-stop m e
+
+-- ---- what is answered
+
+module _ (fs : List ℤ) (ss : List ℕ) (anc : ℕ → ℕ → Bool) (order room : List ℕ) where
+  -- the answer and the room are those of the definition
+  abbrev pub Answered : ℕ → List ℕ → Type 0
+  Answered r room' = (r ≡ written fs ss anc order room) × (room' ≡ filled fs ss anc order room)
+
+  refuses : fits fs order room ≡ false → Answered 0 room
+  unfolding written filled
+  refuses e = (
+    sym (ap (λ (b : Bool). pick b (length (outputOrder fs ss anc order)) 0) e),
+    sym (ap (λ (b : Bool). pick b (outputOrder fs ss anc order ++ drop (length (outputOrder fs ss anc order)) room) room) e),
+  )
+
+  pub refuses-members : positions < length fs → Answered 0 room
+  unfolding fits
+  refuses-members l = refuses (ap (λ (b : Bool). b && (leb (length order) (length fs) && leb (length fs) (length room))) (lt-leb (length fs) positions l))
+
+  pub refuses-order : length fs ≤ positions → length fs < length order → Answered 0 room
+  unfolding fits
+  refuses-order h l =
+      refuses (ap₂ (λ (a b : Bool). a && (b && leb (length fs) (length room))) (le-leb (length fs) positions h) (lt-leb (length order) (length fs) l))
+
+  module _ (h : length fs ≤ positions) (g : length order ≤ length fs) where
+    pub refuses-room : length room < length fs → Answered 0 room
+    unfolding fits
+    refuses-room l =
+        refuses (ap₂ (λ (a b : Bool). a && (b && leb (length fs) (length room))) (le-leb (length fs) positions h) (le-leb (length order) (length fs) g)
+        ∙ lt-leb (length fs) (length room) l)
+
+    answers : {out : List ℕ} {done : TxSet} {len : ℕ} {room' : List ℕ} → length fs ≤ length room
+        → Placed out done len room room' → out ≡ outputOrder fs ss anc order
+        → Answered len room'
+    unfolding written filled fits
+    answers {out} {done} {len} {room'} l p e =
+        let yes : fits fs order room ≡ true =
+        ap₂ (λ (a b : Bool). a && (b && leb (length fs) (length room))) (le-leb (length fs) positions h) (le-leb (length order) (length fs) g)
+        ∙ le-leb (length fs) (length room) l in (
+          p .count ∙ ap length e ∙ sym (ap (λ (b : Bool). pick b (length (outputOrder fs ss anc order)) 0) yes),
+          p .are ∙ ap (λ (m : ℕ). out ++ drop m room) (p .count) ∙ ap (λ (o : List ℕ). o ++ drop (length o) room) e
+              ∙ sym (ap (λ (b : Bool). pick b (outputOrder fs ss anc order ++ drop (length (outputOrder fs ss anc order)) room) room) yes),
+        )
+
+-- ---- the loop
+
+-- what is known of the chunks before the first is put out
+pub record Known (fs : List ℤ) (ss ancestors order : List ℕ) (all : TxSet) (sets tops : List ℕ) (r : ℕ)
+    (outsides : List ℕ) (sumFees : List ℤ) (sumSizes : List ℕ) : Type 0 where
+  pub whole : All (length fs) all
+  pub chunks : Cut (length fs) (chunksOf fs ss order) sets tops r
+  pub survey : Surveyed fs ss (length fs) (ancs ancestors) (chunksOf fs ss order) outsides sumFees sumSizes r
+  pub short : length order ≤ length fs
+  pub long : length tops ≡ positions
+
+-- after `round` rounds: which chunks are gone, and what is out
+pub record Rounds (fs : List ℤ) (ss ancestors order room₀ : List ℕ) (all : TxSet) (sets tops : List ℕ) (r : ℕ)
+    (outsides : List ℕ) (sumFees : List ℤ) (sumSizes : List ℕ) (room : List ℕ) (left done : TxSet) (len round : ℕ) : Type 0 where
+  pub known : Known fs ss ancestors order all sets tops r outsides sumFees sumSizes
+  pub gone : List ℕ
+  pub out : List ℕ
+  pub within : round ≤ r
+  pub rest : (k : ℕ) → mem left k ≡ (ltb k r && not (elem k gone))
+  pub stands : Standing (length fs) done len room
+  pub placed : Placed out done len room₀ room
+  pub same : chunksOut fs ss (length fs) (ancs ancestors) (chunksOf fs ss order) (r - round) gone out ≡ outputOrder fs ss (ancs ancestors) order
+
+-- the full set of n
+pub full-all : {n : ℕ} {s : TxSet} → n ≤ positions → ((i : ℕ) → mem s i ≡ (isPosition i && ltb i n)) → All n s
+full-all {n} h full = record { few = h; are = λ i. full i ∙ position-and i (ltb i n) (λ e. omega (arith, ltb-true i n e)) }
+
+pub rounds-start : {fs : List ℤ} {ss ancestors order : List ℕ} {all : TxSet} {sets tops : List ℕ} {r : ℕ}
+    {outsides : List ℕ} {sumFees : List ℤ} {sumSizes : List ℕ} (room : List ℕ) (left done : TxSet) → Known fs ss ancestors order all sets tops r outsides sumFees sumSizes → length fs ≤ length room
+    → All r left → ((i : ℕ) → mem done i ≡ false)
+    → Rounds fs ss ancestors order room all sets tops r outsides sumFees sumSizes room left done 0 0
+unfolding outputOrder elem anyOf
+rounds-start {fs} {ss} {ancestors} {order} {r = r} room left done h place full none = record {
+  known = h;
+  gone = [];
+  out = [];
+  within = omega arith;
+  rest = λ k. full .are k ∙ sym (and-true (ltb k r));
+  stands = record {
+    below = λ i e. clash e (none i);
+    count = sym (size-members done ∙ ap length (walk-done done (mem-empty done none)));
+    place = place;
+  };
+  placed = record { member = none; count = refl; are = refl; long = refl };
+  same =
+      let e : r - 0 ≡ length (chunksOf fs ss order) = omega (arith, h .chunks .count) in
+      ap (λ (m : ℕ). chunksOut fs ss (length fs) (ancs ancestors) (chunksOf fs ss order) m [] []) e;
+}
+
+module _ {fs : List ℤ} {ss ancestors order room₀ : List ℕ} {all : TxSet} {sets tops : List ℕ} {r : ℕ}
+    {outsides : List ℕ} {sumFees : List ℤ} {sumSizes : List ℕ} {room : List ℕ} {left done : TxSet} {len round : ℕ}
+    (p : Rounds fs ss ancestors order room₀ all sets tops r outsides sumFees sumSizes room left done len round) where
+  -- a candidate of the definition
+  candidate : ℕ → Bool
+  candidate k = not (elem k (p .gone)) && chunkReady (length fs) (ancs ancestors) (p .out) (chunkAt (chunksOf fs ss order) k)
+
+  above-same : (x y : ℕ) → x < r → y < r → sumAbove sumFees sumSizes tops x y ≡ chunkAbove fs ss (length fs) (chunksOf fs ss order) x y
+  unfolding sumAbove chunkAbove
+  above-same x y lx ly = rw (p .known .survey .rate x lx, p .known .survey .rate y ly, p .known .chunks .tops x lx, p .known .chunks .tops y ly)
+
+  -- what is chosen is what the definition takes
+  chosen-chunk : chunkOf outsides sumFees sumSizes tops left done
+      ≡ nextChunk fs ss (length fs) (ancs ancestors) (chunksOf fs ss order) (p .gone) (p .out)
+  unfolding members nextChunk candidate
+  chosen-chunk =
+      ap (best (sumAbove sumFees sumSizes tops))
+      (only-list (covered outsides done) (mem left) positions 0
+      ∙ list-below (λ j. mem left j && covered outsides done j) candidate r positions (p .known .chunks .few)
+      (λ i. ap (λ (b : Bool). b && covered outsides done i) (p .rest i) ∙ ready i (ltb i r) refl))
+      ∙ best-ext (sumAbove sumFees sumSizes tops) (chunkAbove fs ss (length fs) (chunksOf fs ss order)) (listFrom candidate r 0)
+      (λ x y ex ey. above-same x y (low x ex) (low y ey))
+      ∙ ap (λ (m : ℕ). best (chunkAbove fs ss (length fs) (chunksOf fs ss order)) (listFrom candidate m 0)) (p .known .chunks .count)
+    where
+      ready : (i : ℕ) (b : Bool) → ltb i r ≡ b → ((b && not (elem i (p .gone))) && covered outsides done i) ≡ (b && candidate i)
+      ready i true e =
+          ap (λ (b : Bool). not (elem i (p .gone)) && b)
+          (covered-ready (length fs) done (p .out) (p .placed .member) (ancs ancestors) (chunkAt (chunksOf fs ss order) i) (setAt outsides i)
+          (p .known .survey .outside i (ltb-true i r e)))
+      ready i false e = refl
+
+      low : (x : ℕ) → elem x (listFrom candidate r 0) ≡ true → x < r
+      low x e = ⊎-elim (λ l. l) (λ l. clash e (elem-out candidate r 0 x (λ _ m. omega arith))) (lt-or-ge x r)
+
+  -- k is chosen
+  module _ (k : ℕ) (is : chunkOf outsides sumFees sumSizes tops left done ≡ k ∷ []) where
+    chosen-below : k < r
+    chosen-below =
+        ltb-true k r
+        (and-eq-true-iff (ltb k r) (not (elem k (p .gone))) .0
+        (sym (p .rest k) ∙ best-mem (sumAbove sumFees sumSizes tops) (covered outsides done) left k is) .0)
+
+    -- its members are members of the cluster
+    pub chosen-small : (chunk : TxSet) → chunk ≡ setAt sets k → (i : ℕ) → mem chunk i ≡ true → i < length fs
+    chosen-small chunk at i e =
+        ltb-true i (length fs)
+        (and-eq-true-iff (ltb i (length fs)) (elem i (chunkAt (chunksOf fs ss order) k)) .0
+        (sym (ap (λ (s : TxSet). mem s i) at ∙ p .known .chunks .sets k chosen-below i) ∙ e)
+        .0)
+
+    -- it is taken, and its members are put out
+    pub rounds-turn : (left' chunk done' : TxSet) (len' : ℕ) (room' : List ℕ) → round < r
+        → ((i : ℕ) → mem left' i ≡ (mem left i && not (eqb i k))) → chunk ≡ setAt sets k
+        → Put fs ss (length fs) (ancs ancestors) chunk done len room done' len' room'
+        → Rounds fs ss ancestors order room₀ all sets tops r outsides sumFees sumSizes room' left' done' len' (round + 1)
+    unfolding putOut elem anyOf
+    rounds-turn left' chunk done' len' room' l less at put =
+        let cs = chunksOf fs ss order in
+        let c = chunkAt cs k in
+        let n = length fs in
+        record {
+          known = p .known;
+          gone = k ∷ p .gone;
+          out = inside fs ss n (ancs ancestors) c (length c) (p .out);
+          within = omega arith;
+          rest = λ i. less i ∙ ap (λ (b : Bool). b && not (eqb i k)) (p .rest i) ∙ group (ltb i r) (elem i (p .gone)) (eqb i k);
+          stands = put .stands;
+          placed = put .puts c (p .out) room₀ (λ i. ap (λ (s : TxSet). mem s i) at ∙ p .known .chunks .sets k chosen-below i) (p .placed);
+          same =
+              let e : suc (r - (round + 1)) ≡ r - round = omega arith in
+              sym (chunks-step fs ss n (ancs ancestors) cs (p .gone) (p .out) (r - (round + 1)) (k ∷ []) (sym chosen-chunk ∙ is))
+              ∙ ap (λ (m : ℕ). chunksOut fs ss n (ancs ancestors) cs m (p .gone) (p .out)) e
+              ∙ p .same;
+        }
+      where
+        group : (a b d : Bool) → ((a && not b) && not d) ≡ (a && not (d || b))
+        group true b true = and-false (not b)
+        group true b false = and-true (not b)
+        group false b d = refl
+
+  -- where all is out
+  over : p .out ≡ outputOrder fs ss (ancs ancestors) order → Answered fs ss (ancs ancestors) order room₀ len room
+  over e =
+      answers fs ss (ancs ancestors) order room₀ (p .known .whole .few) (p .known .short) (omega (arith, p .stands .place, p .placed .long)) (p .placed) e
+
+  -- no chunk is ready
+  pub rounds-stop : chunkOf outsides sumFees sumSizes tops left done ≡ [] → Answered fs ss (ancs ancestors) order room₀ len room
+  rounds-stop e =
+      over (sym (chunks-stop fs ss (length fs) (ancs ancestors) (chunksOf fs ss order) (p .gone) (p .out) (r - round) (sym chosen-chunk ∙ e)) ∙ p .same)
+
+  -- each round is over
+  pub rounds-done : r ≤ round → Answered fs ss (ancs ancestors) order room₀ len room
+  unfolding chunksOut
+  rounds-done l =
+      let e : 0 ≡ r - round = omega arith in
+      over (ap (λ (m : ℕ). chunksOut fs ss (length fs) (ancs ancestors) (chunksOf fs ss order) m (p .gone) (p .out)) e ∙ p .same)

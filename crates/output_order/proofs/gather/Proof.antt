@@ -1,0 +1,37 @@
+use Prim.Native.Nat.{_-_}
+use lib.ListN.{length}
+use borrow.Author.Needs.{needs}
+use Rattle.output_order.proofs.Cutting.{Gathering, gather-start, gather-turn, gather-done}
+use Rattle.output_order.proofs.gather.Statement.{statement}
+use Rattle.output_order.proofs.gather.Tie as tie
+
+abbrev Inv-loop : tie.InvT-loop
+Inv-loop fees sizes order in-fees₀ in-sizes₀ k₀ in-fees in-sizes k = Gathering fees sizes order in-fees₀ in-sizes₀ in-fees in-sizes k
+
+abbrev μ-loop : tie.MeasureT-loop
+μ-loop fees sizes order in-fees₀ in-sizes₀ k₀ in-fees in-sizes k = length order - k
+
+loop-again : tie.Need-loop-again Inv-loop μ-loop
+loop-again c =
+    let put = c .before .before .before in
+    let at = put .before .before .before in
+    let turn = at .before .before in
+    gather-turn (turn .before .loop .inv) (turn .loop-test .taken) _ _ _ (at .at .ensures) (put .put .ensures .0) (put .put .ensures .1)
+
+pub gather-spec : {M : Type 1} → statement M
+gather-spec =
+    tie.close
+    (tie.spec
+    Inv-loop
+    μ-loop
+    (λ c. gather-start)
+    (λ c. search needs)
+    (λ c. search needs)
+    (λ c κs. search needs)
+    (λ c κs. search needs)
+    (λ c. search needs)
+    (λ c. search needs)
+    loop-again
+    (λ c. c .before .loop .inv .fees-long)
+    (λ c. c .before .loop .inv .sizes-long)
+    (λ c. gather-done (c .before .loop .inv) (c .loop-test .left)))

@@ -1,0 +1,119 @@
+use borrow.Author.Needs.{needs}
+use borrow.Author.Tests.{not-true, not-false}
+use mathlib.Core.Path.{_≡_, refl, sym, ap, ap₂, _∙_}
+use mathlib.Core.Bool.{Bool, true, not, _&&_}
+use lib.Dec.{eqb}
+use Rattle.feefrac.specs.Rate.{rankOrder, isGreater, rateAt}
+use Rattle.txset.specs.declared.TxSet.{TxSet}
+use Rattle.txset.specs.Sets.{mem, members, size}
+use Rattle.feeset.specs.Scan.{ranksAbove}
+use Rattle.output_order.specs.Rounds.{freed}
+use Rattle.output_order.proofs.Choices.{Held, Next, held-start, held-stop, next-less, held-skip, held-first, held-yields, held-keeps}
+use Rattle.output_order.proofs.Ready.{freed-is}
+use Rattle.output_order.proofs.next_member.Statement.{statement}
+use Rattle.output_order.proofs.next_member.Tie as tie
+
+abbrev Inv-loop : tie.InvT-loop
+Inv-loop fees sizes ancestors all done held₀ rest₀ held rest = Held (ranksAbove (rateAt fees sizes)) (freed ancestors all done) (members rest₀) held rest
+
+abbrev μ-loop : tie.MeasureT-loop
+μ-loop fees sizes ancestors all done held₀ rest₀ held rest = size rest
+
+-- a turn takes the lowest
+next : (c : tie.After-without-lowest Inv-loop μ-loop)
+    → Next (c .before .before .before .before .loop .rest) (c .without-lowest .result) (c .before .lowest .result)
+next c =
+    let empty = c .before .before .before in
+    record {
+      left = sym (empty .is-empty .ensures) ∙ not-true _ (c .before .before .if1 .taken);
+      first = c .before .lowest .ensures;
+      rest = c .without-lowest .ensures;
+    }
+
+-- the subset test says whether the lowest is ready
+tested : (c : tie.After-is-subset Inv-loop μ-loop)
+    → let w = c .before .before .before .before in
+    let args = w .before .before .before .before .before .before .before .args in
+    freed (args .ancestors .now) (args .all) (args .done) (w .before .lowest .result) ≡ c .is-subset .result
+tested c =
+    let w = c .before .before .before .before in
+    let args = w .before .before .before .before .before .before .before .args in
+    sym (c .is-subset .ensures ∙ freed-is _ _ _ _ _
+    (λ a.
+    c .before .remove .ensures a
+    ∙ ap (λ (b : Bool). b && not (eqb a (w .before .lowest .result)))
+    (c .before .before .intersection .ensures a ∙ ap (λ (s : TxSet). mem s a && mem (args .all) a) (c .before .before .before .at .ensures))))
+
+loop-again : tie.Need-loop-again Inv-loop μ-loop
+loop-again c =
+    let w = c .before .before .before .before .before in
+    held-skip (w .before .before .before .before .loop .inv) (next w) (tested (c .before) ∙ not-true _ (c .if2 .taken))
+
+-- the lowest is ready
+ready : (c : tie.Else2 Inv-loop μ-loop)
+    → let w = c .before .before .before .before .before in
+    let args = w .before .before .before .before .before .before .before .args in
+    freed (args .ancestors .now) (args .all) (args .done) (w .before .lowest .result) ≡ true
+ready c = tested (c .before) ∙ not-false _ (c .if2 .left)
+
+loop-again-2 : tie.Need-loop-again-2 Inv-loop μ-loop
+loop-again-2 c =
+    let w = c .before .before .before .before .before .before in
+    held-first (w .before .before .before .before .loop .inv) (next w) (ready (c .before)) (c .if3 .taken)
+
+-- the lowest ranks above what is held exactly if the test says so
+ranked : (c : tie.After-is-greater Inv-loop μ-loop)
+    → let w = c .before .before .before .before .before .before .before .before .before .before in
+    let loop = w .before .before .before .before in
+    let args = loop .before .before .before .args in
+    ranksAbove (rateAt (args .fees .now) (args .sizes .now)) (w .before .lowest .result) (loop .loop .held) ≡ c .is-greater .result
+unfolding ranksAbove
+ranked c =
+    let rank = c .before in
+    sym (c .is-greater .ensures ∙ ap isGreater (rank .rank .ensures ∙ ap₂ rankOrder (rank .before .before .at2 .ensures) (rank .before .at3 .ensures)))
+
+loop-again-3 : tie.Need-loop-again-3 Inv-loop μ-loop
+loop-again-3 c =
+    let else3 = c .before .before .before .before .before in
+    let w = else3 .before .before .before .before .before .before in
+    held-yields (w .before .before .before .before .loop .inv) (next w) (ready (else3 .before)) (else3 .if3 .left) (ranked (c .before) ∙ c .if4 .taken)
+
+loop-again-4 : tie.Need-loop-again-4 Inv-loop μ-loop
+loop-again-4 c =
+    let else3 = c .before .before .before .before .before in
+    let w = else3 .before .before .before .before .before .before in
+    held-keeps (w .before .before .before .before .loop .inv) (next w) (ready (else3 .before)) (else3 .if3 .left) (ranked (c .before) ∙ c .if4 .left)
+
+returns : tie.Need-returns Inv-loop μ-loop
+returns c =
+    let end = c .before in
+    c .held-choice .ensures ∙ held-stop (end .before .before .loop .inv) (sym (end .before .is-empty .ensures) ∙ not-false _ (end .if1 .left))
+
+pub next-member-spec : {M : Type 1} → statement M
+next-member-spec =
+    tie.close
+    (tie.spec
+    Inv-loop
+    μ-loop
+    (λ c. held-start _ _ _ _ refl)
+    (λ c κs. search needs)
+    (λ c κs. search needs)
+    (λ c κs. search needs)
+    (λ c κs. search needs)
+    (λ c κs. search needs)
+    (λ c κs. search needs)
+    (λ c κs. search needs)
+    (λ c. next-less (next (c .before .before .before .before .before)))
+    loop-again
+    (λ c. next-less (next (c .before .before .before .before .before .before)))
+    loop-again-2
+    (λ c κs. search needs)
+    (λ c κs. search needs)
+    (λ c κs. search needs)
+    (λ c κs. search needs)
+    (λ c. next-less (next (c .before .before .before .before .before .before .before .before .before .before .before)))
+    loop-again-3
+    (λ c. next-less (next (c .before .before .before .before .before .before .before .before .before .before .before)))
+    loop-again-4
+    (λ c κs. search needs)
+    returns)

@@ -1,0 +1,341 @@
+// Module 7 of document 01: output_order. The chunks by rank, and inside each its members by rank, both subject to ancestors.
+ghost use mathlib.Core.Path.{_≡_};
+ghost use mathlib.Core.Bool.{true, _&&_};
+ghost use mathlib.Core.List.{List};
+ghost use Prim.Native.Nat.{ℕ, _≤_, _<_};
+ghost use lib.ListN.{length};
+ghost use Rattle.txset.specs.Lists.{anyOf, elem, highestOf};
+ghost use Rattle.txset.specs.Sets.{positions, isPosition, mem, members, setAt};
+ghost use Rattle.output_order.specs.Output.{chunksOf, written, filled, lengthsWritten, lengthsFilled};
+ghost use Rattle.output_order.specs.Setup.{Gathered};
+ghost use Rattle.output_order.specs.Steps.{All, Cut, Surveyed};
+ghost use Rattle.output_order.specs.Rounds.{chosen, heldOf, sumAbove, chunkOf, memberOf, Standing, Put};
+use chunking::cut_lengths;
+use feefrac::FeeFrac;
+use feefrac::compare_sizes;
+use feefrac::is_greater;
+use feefrac::then_by;
+use feeset::set_feerate;
+use txset::POSITIONS;
+use txset::TxSet;
+
+// The best of some candidates, or that there is none.
+enum Choice {
+    Of(usize),
+    Nothing,
+}
+
+// What is out: the members as a set, and their number.
+struct Out {
+    done: TxSet,
+    len: usize,
+}
+
+// Writes the members of an order, as they are put out, to the start of the room, and answers how many there are. `ancestors` has a set
+// for each member. Where there are more than 64 members, a longer order or a shorter room, it writes nothing and answers 0.
+pub fn output_order(
+    fees: &[i64],
+    sizes: &[u64],
+    ancestors: &[u64],
+    order: &[usize],
+    room: &mut [usize],
+) -> usize
+    ensures { λ r. ⌜ r ≡ written (now (fees .entry)) (now (sizes .entry)) (λ i. mem (setAt (now (ancestors .entry)) i)) (now (order .entry)) (now (room .entry)) ⌝ }
+    ensures { λ _. ⌜ now (room .exit) ≡ filled (now (fees .entry)) (now (sizes .entry)) (λ i. mem (setAt (now (ancestors .entry)) i)) (now (order .entry)) (now (room .entry)) ⌝ }
+{
+    let n = fees.len();
+    if POSITIONS < n {
+        return 0;
+    }
+    if n < order.len() {
+        return 0;
+    }
+    if room.len() < n {
+        return 0;
+    }
+    let all = TxSet::full(n);
+    let mut sets = [0u64; 64];
+    let mut tops = [0usize; 64];
+    let count = cut(fees, sizes, all, order, &mut sets, &mut tops);
+    let mut outsides = [0u64; 64];
+    let mut sum_fees = [0i64; 64];
+    let mut sum_sizes = [0u64; 64];
+    survey(
+        fees,
+        sizes,
+        ancestors,
+        all,
+        &sets,
+        count,
+        &mut outsides,
+        &mut sum_fees,
+        &mut sum_sizes,
+    );
+    let mut left = TxSet::full(count);
+    let mut done = TxSet::empty();
+    let mut len: usize = 0;
+    let mut round: usize = 0;
+    while round < count {
+        let Choice::Of(k) = next_chunk(&outsides, &sum_fees, &sum_sizes, &tops, left, done) else {
+            return len;
+        };
+        left = left.remove(k);
+        let now = put_out(
+            fees,
+            sizes,
+            ancestors,
+            all,
+            TxSet::at(&sets, k),
+            Out { done, len },
+            room,
+        );
+        done = now.done;
+        len = now.len;
+        round += 1;
+    }
+    len
+}
+
+// The members of each chunk of the order as a set, and its highest position; answers how many chunks there are.
+fn cut(
+    fees: &[i64],
+    sizes: &[u64],
+    all: TxSet,
+    order: &[usize],
+    sets: &mut [u64],
+    tops: &mut [usize],
+) -> usize
+    requires { ⌜ All (length (now fees)) all ⌝ }
+    requires { ⌜ length (now order) ≤ length (now fees) ⌝ }
+    requires { ⌜ (length (now sets) ≡ positions) × (length (now tops) ≡ positions) ⌝ }
+    ensures { λ r. ⌜ Cut (length (now (fees .entry))) (chunksOf (now (fees .entry)) (now (sizes .entry)) (now (order .entry))) (now (sets .exit)) (now (tops .exit)) r ⌝ }
+{
+    let mut lens = [0usize; 64];
+    let count = order_lengths(fees, sizes, order, &mut lens);
+    let mut start: usize = 0;
+    let mut k: usize = 0;
+    while k < count {
+        let end = start + lens[k];
+        let chunk = &order[start..end];
+        set_of(chunk).intersection(all).put(sets, k);
+        tops[k] = highest(chunk);
+        start = end;
+        k += 1;
+    }
+    count
+}
+
+// Writes the lengths of the chunks of an order to the start of `lens`; answers how many there are. Where the order is longer than 64 or
+// than `lens`, it writes nothing and answers 0.
+pub fn order_lengths(fees: &[i64], sizes: &[u64], order: &[usize], lens: &mut [usize]) -> usize
+    ensures { λ r. ⌜ r ≡ lengthsWritten (now (fees .entry)) (now (sizes .entry)) (now (order .entry)) (now (lens .entry)) ⌝ }
+    ensures { λ _. ⌜ now (lens .exit) ≡ lengthsFilled (now (fees .entry)) (now (sizes .entry)) (now (order .entry)) (now (lens .entry)) ⌝ }
+{
+    let n = order.len();
+    if POSITIONS < n {
+        return 0;
+    }
+    let mut in_fees = [0i64; 64];
+    let mut in_sizes = [0u64; 64];
+    gather(fees, sizes, order, &mut in_fees, &mut in_sizes);
+    cut_lengths(&in_fees[..n], &in_sizes[..n], lens)
+}
+
+// The fees and sizes of the members in the order.
+fn gather(fees: &[i64], sizes: &[u64], order: &[usize], in_fees: &mut [i64], in_sizes: &mut [u64])
+    ensures { λ _. ⌜ Gathered (now (fees .entry)) (now (sizes .entry)) (now (order .entry)) (now («in_fees» .exit)) (now («in_sizes» .exit)) ⌝ }
+{
+    let mut k: usize = 0;
+    while k < order.len() {
+        let member = order[k];
+        FeeFrac::at(fees, sizes, member).put(in_fees, in_sizes, k);
+        k += 1;
+    }
+}
+
+// The positions of a list as a set.
+fn set_of(list: &[usize]) -> TxSet
+    ensures { λ r. ⌜ ((i : ℕ) → mem r i ≡ (isPosition i && elem i (now (list .entry)))) ⌝ }
+{
+    let mut set = TxSet::empty();
+    let mut k: usize = 0;
+    while k < list.len() {
+        let member = list[k];
+        set = set.insert(member);
+        k += 1;
+    }
+    set
+}
+
+// The highest position of a list, 0 of none.
+fn highest(list: &[usize]) -> usize
+    ensures { λ r. ⌜ r ≡ highestOf (now (list .entry)) ⌝ }
+{
+    let mut top: usize = 0;
+    let mut k: usize = 0;
+    while k < list.len() {
+        let member = list[k];
+        if top < member {
+            top = member;
+        }
+        k += 1;
+    }
+    top
+}
+
+// Of each chunk the ancestors that its members have outside it, and its feerate sum.
+fn survey(
+    fees: &[i64],
+    sizes: &[u64],
+    ancestors: &[u64],
+    all: TxSet,
+    sets: &[u64],
+    count: usize,
+    outsides: &mut [u64],
+    sum_fees: &mut [i64],
+    sum_sizes: &mut [u64],
+)
+    requires { ⌜ All (length (now fees)) all ⌝ }
+    requires { ⌜ count ≤ positions ⌝ }
+    requires { ⌜ (length (now outsides) ≡ positions) × ((length (now «sum_fees») ≡ positions) × (length (now «sum_sizes») ≡ positions)) ⌝ }
+    ensures { λ _. ⌜ ((cs : List (List ℕ)) (tops : List ℕ) → Cut (length (now (fees .entry))) cs (now (sets .entry)) tops count → Surveyed (now (fees .entry)) (now (sizes .entry)) (length (now (fees .entry))) (λ t. mem (setAt (now (ancestors .entry)) t)) cs (now (outsides .exit)) (now («sum_fees» .exit)) (now («sum_sizes» .exit)) count) ⌝ }
+{
+    let mut k: usize = 0;
+    while k < count {
+        let set = TxSet::at(sets, k);
+        all_ancestors(ancestors, set)
+            .intersection(all)
+            .subtract(set)
+            .put(outsides, k);
+        set_feerate(fees, sizes, set).put(sum_fees, sum_sizes, k);
+        k += 1;
+    }
+}
+
+// The ancestors of all members of a set.
+fn all_ancestors(ancestors: &[u64], set: TxSet) -> TxSet
+    ensures { λ r. ⌜ ((a : ℕ) → mem r a ≡ anyOf (λ t. mem (setAt (now (ancestors .entry)) t) a) (members set)) ⌝ }
+{
+    let mut found = TxSet::empty();
+    let mut rest = set;
+    while !rest.is_empty() {
+        let t = rest.lowest();
+        rest = rest.without_lowest();
+        found = found.union(TxSet::at(ancestors, t));
+    }
+    found
+}
+
+// Of the chunks left whose outside ancestors are out the one of the highest rank, then the lowest highest position.
+fn next_chunk(
+    outsides: &[u64],
+    sum_fees: &[i64],
+    sum_sizes: &[u64],
+    tops: &[usize],
+    left: TxSet,
+    done: TxSet,
+) -> Choice
+    requires { ⌜ length (now tops) ≡ positions ⌝ }
+    ensures { λ r. ⌜ chosen r ≡ chunkOf (now (outsides .entry)) (now («sum_fees» .entry)) (now («sum_sizes» .entry)) (now (tops .entry)) left done ⌝ }
+{
+    let mut held: usize = POSITIONS;
+    let mut rest = left;
+    while !rest.is_empty() {
+        let k = rest.lowest();
+        rest = rest.without_lowest();
+        if !TxSet::at(outsides, k).is_subset(done) {
+            continue;
+        }
+        if held == POSITIONS {
+            held = k;
+            continue;
+        }
+        if chunk_above(sum_fees, sum_sizes, tops, k, held) {
+            held = k;
+        }
+    }
+    held_choice(held)
+}
+
+// Whether chunk j is to go out before chunk k, both being ready.
+fn chunk_above(sum_fees: &[i64], sum_sizes: &[u64], tops: &[usize], j: usize, k: usize) -> bool
+    requires { ⌜ (j < length (now tops)) × (k < length (now tops)) ⌝ }
+    ensures { λ r. ⌜ r ≡ sumAbove (now («sum_fees» .entry)) (now («sum_sizes» .entry)) (now (tops .entry)) j k ⌝ }
+{
+    let by_rank = FeeFrac::at(sum_fees, sum_sizes, j).rank(FeeFrac::at(sum_fees, sum_sizes, k));
+    let by_top = compare_sizes(tops[k] as u64, tops[j] as u64);
+    is_greater(then_by(by_rank, by_top))
+}
+
+// Puts the members of a chunk out by their own rank, each to the room's next place; answers what is out then.
+fn put_out(
+    fees: &[i64],
+    sizes: &[u64],
+    ancestors: &[u64],
+    all: TxSet,
+    chunk: TxSet,
+    before: Out,
+    room: &mut [usize],
+) -> Out
+    requires { ⌜ All (length (now fees)) all ⌝ }
+    requires { ⌜ ((i : ℕ) → mem chunk i ≡ true → i < length (now fees)) ⌝ }
+    requires { ⌜ Standing (length (now fees)) (before .done) (before .len) (now room) ⌝ }
+    ensures { λ r. ⌜ Put (now (fees .entry)) (now (sizes .entry)) (length (now (fees .entry))) (λ i. mem (setAt (now (ancestors .entry)) i)) chunk (before .done) (before .len) (now (room .entry)) (r .done) (r .len) (now (room .exit)) ⌝ }
+{
+    let mut done = before.done;
+    let mut len = before.len;
+    let mut left = chunk.subtract(done);
+    while !left.is_empty() {
+        let Choice::Of(t) = next_member(fees, sizes, ancestors, all, left, done) else {
+            return Out { done, len };
+        };
+        left = left.remove(t);
+        done = done.insert(t);
+        room[len] = t;
+        len += 1;
+    }
+    Out { done, len }
+}
+
+// Of the members left whose other ancestors are out the one of the highest own rank.
+fn next_member(
+    fees: &[i64],
+    sizes: &[u64],
+    ancestors: &[u64],
+    all: TxSet,
+    left: TxSet,
+    done: TxSet,
+) -> Choice
+    ensures { λ r. ⌜ chosen r ≡ memberOf (now (fees .entry)) (now (sizes .entry)) (now (ancestors .entry)) all left done ⌝ }
+{
+    let mut held: usize = POSITIONS;
+    let mut rest = left;
+    while !rest.is_empty() {
+        let t = rest.lowest();
+        rest = rest.without_lowest();
+        if !TxSet::at(ancestors, t)
+            .intersection(all)
+            .remove(t)
+            .is_subset(done) {
+            continue;
+        }
+        if held == POSITIONS {
+            held = t;
+            continue;
+        }
+        if is_greater(FeeFrac::at(fees, sizes, t).rank(FeeFrac::at(fees, sizes, held))) {
+            held = t;
+        }
+    }
+    held_choice(held)
+}
+
+// Nothing is held where the scan still has 64.
+fn held_choice(held: usize) -> Choice
+    ensures { λ r. ⌜ chosen r ≡ heldOf held ⌝ }
+{
+    if held == POSITIONS {
+        return Choice::Nothing;
+    }
+    Choice::Of(held)
+}

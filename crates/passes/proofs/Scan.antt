@@ -1,0 +1,542 @@
+-- The loops of a pass as records over plain values, with a law for each thing that the code does to them. Assumes nothing.
+use mathlib.Core.Path.{_≡_, refl, sym, ap, ap₂, _∙_}
+use mathlib.Core.Bool.{Bool, true, false}
+use mathlib.Core.List.{List, [], _∷_, _++_, reverseAux, append-nil, append-assoc}
+use Prim.Native.Nat.{ℕ, suc, _+_, _-_, _≤_, _<_}
+use native.Mathlib.Numerals.{add-one}
+use native.Mathlib.Omega.{arith}
+use lib.ListN.{length, take, drop, getD, set, length-append, length-drop, length-set, take-append-drop, drop-of-length-le}
+use lib.Seq.{length-take-le, take-all, take-at, drop-at, take-suc, drop-cons, getD-at, take-append-add, drop-append-add}
+use borrow.Rule.Slice.PartMut.{midOf, putMid}
+use Rattle.feefrac.specs.declared.FeeFrac.{FeeFrac}
+use Rattle.feefrac.specs.Rate.{higher}
+use Rattle.txset.specs.Sets.{overlap}
+use Rattle.passes.specs.declared.pass.Group.{Group as Summary}
+use Rattle.passes.specs.Summary.{Joined}
+use Rattle.passes.specs.Pass.{Group, absorb, dependsOn, settle, alone, groupsAfter, flat, onePass}
+use Rattle.passes.proofs.Groups.{onOf, Stands, joined-stands, overlap-depends, Stack, none, more, Near, Far, stack-kept, stack-push}
+use Rattle.passes.proofs.Turns.{mid-at, put-at, length-rotated}
+
+-- ---- lists of groups
+
+-- the members of groups that were stepped over, those of the last one first
+unfoldable pub behind : List Group → List ℕ
+behind [] = []
+behind (o ∷ os) = o .txs ++ behind os
+
+-- the groups stepped over, put back in front of l
+pub flat-back : (os l : List Group) → flat (reverseAux os l) ≡ flat l ++ behind os
+unfolding flat behind
+flat-back [] l = sym (append-nil (flat l))
+flat-back (o ∷ os) l = flat-back os (o ∷ l) ∙ append-assoc (flat l) (o .txs) (behind os)
+
+-- one member more
+pub after-snoc : (rate : ℕ → FeeFrac) (dep : ℕ → ℕ → Bool) (gs : List Group) (ts : List ℕ) (t : ℕ)
+    → groupsAfter rate dep gs (ts ++ (t ∷ [])) ≡ settle dep (alone rate t) (groupsAfter rate dep gs ts)
+unfolding groupsAfter
+after-snoc rate dep gs [] t = refl
+after-snoc rate dep gs (u ∷ ts) t = after-snoc rate dep (settle dep (alone rate u) gs) ts t
+
+-- a group of a stack has a member
+few-flat : {place : ℕ → ℕ} {ws : List ℕ} {xs : List Summary} {gs : List Group} → Stack place ws xs gs → length gs ≤ length (flat gs)
+unfolding flat
+few-flat none = omega arith
+few-flat (more g gs n t v) = omega (arith, few-flat v, length-append (flat gs) (g .txs))
+
+length-behind : (gs : List Group) → length (behind gs) ≡ length (flat gs)
+unfolding behind flat
+length-behind [] = refl
+length-behind (g ∷ gs) = omega (arith, length-behind gs, length-append (g .txs) (behind gs), length-append (flat gs) (g .txs))
+
+-- ---- at the head of the loop over the members
+
+-- the list has the members of the groups gs, k in all, and then the rest; the first `count` summaries stand for gs
+pub record Held (ws : List ℕ) (gs : List Group) (rest order : List ℕ) (groups : List Summary) (count k : ℕ) : Type 0 where
+  pub stack : Near ws groups gs
+  pub many : count ≡ length gs
+  pub size : k ≡ length (flat gs)
+  pub lies : order ≡ flat gs ++ rest
+
+-- the first k members have made their groups
+pub record Outer (rate : ℕ → FeeFrac) (ws order₀ order : List ℕ) (groups : List Summary) (count k : ℕ) : Type 0 where
+  pub held : Held ws (groupsAfter rate (onOf ws) [] (take k order₀)) (drop k order₀) order groups count k
+  pub within : k ≤ length order₀
+  pub same : length order ≡ length order₀
+  pub small : length order ≤ 64
+  pub long : length groups ≡ 64
+
+pub outer-start : (rate : ℕ → FeeFrac) (ws order : List ℕ) (groups : List Summary) → length groups ≡ 64 → length order ≤ 64
+    → Outer rate ws order order groups 0 0
+unfolding groupsAfter flat
+outer-start rate ws order groups a h =
+    record { held = record { stack = none; many = refl; size = refl; lies = refl }; within = omega arith; same = refl; small = h; long = a }
+
+-- ---- in the scan
+
+-- the groups bs are below the current one, g, and os were stepped over, the last one first: `ahead` of their members stand in
+-- front of g's, the others behind; the array has bs at its start and os at its end; what comes of it is `goal`
+pub record State (ws : List ℕ) (goal : List Group) (rest order : List ℕ) (groups : List Summary) (cur : Summary) (below from ahead over : ℕ)
+    (bs os : List Group) (g : Group) : Type 0 where
+  pub under : Near ws groups bs
+  pub gone : Far ws groups os
+  pub current : Stands ws cur g
+  pub low : below ≡ length bs
+  pub high : over ≡ length os
+  pub start : from ≡ length (flat bs)
+  pub few : ahead ≤ length (behind os)
+  pub lies : order ≡ flat bs ++ ((take ahead (behind os) ++ g .txs) ++ (drop ahead (behind os) ++ rest))
+  pub comes : reverseAux os (settle (onOf ws) g bs) ≡ goal
+
+-- the same of some groups
+pub record Scan (ws : List ℕ) (goal : List Group) (rest order : List ℕ) (groups : List Summary) (cur : Summary)
+    (below from ahead over : ℕ) : Type 0 where
+  pub bs : List Group
+  pub os : List Group
+  pub g : Group
+  pub state : State ws goal rest order groups cur below from ahead over bs os g
+
+-- the same where `prev` is the summary of the group p on top of those below
+pub record Top (ws : List ℕ) (goal : List Group) (rest order : List ℕ) (groups : List Summary) (cur : Summary) (below from ahead over : ℕ)
+    (prev : Summary) : Type 0 where
+  pub p : Group
+  pub bs : List Group
+  pub os : List Group
+  pub g : Group
+  pub state : State ws goal rest order groups cur below from ahead over (p ∷ bs) os g
+  pub under : Near ws groups bs
+  pub top : Stands ws prev p
+
+-- the same where the scan is over
+pub record Rest (ws : List ℕ) (goal : List Group) (rest order : List ℕ) (groups : List Summary) (cur : Summary)
+    (below from ahead over : ℕ) : Type 0 where
+  pub bs : List Group
+  pub os : List Group
+  pub g : Group
+  pub state : State ws goal rest order groups cur below from ahead over bs os g
+  pub settled : settle (onOf ws) g bs ≡ g ∷ bs
+
+-- how far the numbers of a scan go
+pub record Room (order : List ℕ) (cur : Summary) (below from ahead over : ℕ) : Type 0 where
+  pub fit : from + ahead + cur .len ≤ length order
+  pub few : below + over < length order
+
+-- at the head of the scan for the member t: whatever the groups gs and the rest of the list were where it began, it works t into gs
+pub record Inner (rate : ℕ → FeeFrac) (ws order₀ : List ℕ) (groups₀ : List Summary) (count k t : ℕ) (order : List ℕ) (groups : List Summary) (cur : Summary)
+    (below from ahead over : ℕ) : Type 0 where
+  pub same : length order ≡ length order₀
+  pub small : length order ≤ 64
+  pub long : length groups ≡ 64
+  pub room : Room order cur below from ahead over
+  pub scan : (gs : List Group) (rest : List ℕ) → Held ws gs (t ∷ rest) order₀ groups₀ count k
+      → Scan ws (settle (onOf ws) (alone rate t) gs) rest order groups cur below from ahead over
+
+pub scan-start : {ws : List ℕ} {gs : List Group} {t : ℕ} {rest order : List ℕ} {groups : List Summary} {count k : ℕ} {cur : Summary}
+    (rate : ℕ → FeeFrac) → Held ws gs (t ∷ rest) order groups count k → Stands ws cur (alone rate t)
+    → Scan ws (settle (onOf ws) (alone rate t) gs) rest order groups cur count k 0 0
+unfolding behind
+scan-start {gs = gs} {t = t} rate v a =
+    record {
+      bs = gs;
+      os = [];
+      g = alone rate t;
+      state = record {
+        under = v .stack;
+        gone = none;
+        current = a;
+        low = v .many;
+        high = refl;
+        start = v .size;
+        few = omega arith;
+        lies = v .lies;
+        comes = refl;
+      };
+    }
+
+module _ {ws : List ℕ} {goal : List Group} {rest order : List ℕ} {groups : List Summary} {cur : Summary} {below from ahead over : ℕ} where
+  pub uncover : (d : Summary) → Scan ws goal rest order groups cur below from ahead over → 0 < below
+      → Top ws goal rest order groups cur below from ahead over (getD groups (below - 1) d)
+  uncover d v h = go (v .state .under) (v .state)
+    where
+      go : {bs : List Group} → Near ws groups bs → State ws goal rest order groups cur below from ahead over bs (v .os) (v .g)
+          → Top ws goal rest order groups cur below from ahead over (getD groups (below - 1) d)
+      go none s = absurd (omega (arith, s .low))
+      go (more p bs n t w) s =
+          let e : below - 1 ≡ length bs = omega (arith, s .low) in
+          record { p = p; bs = bs; os = v .os; g = v .g; state = s; under = w; top = rw e (t d) }
+
+  module _ {bs os : List Group} {g : Group} (s : State ws goal rest order groups cur below from ahead over bs os g) where
+    abbrev front : List ℕ
+    front = take ahead (behind os)
+
+    abbrev back : List ℕ
+    back = drop ahead (behind os)
+
+    front-size : length front ≡ ahead
+    front-size = length-take-le ahead (behind os) (s .few)
+
+    part-size : length (front ++ g .txs) ≡ ahead + cur .len
+    part-size = omega (arith, length-append front (g .txs), front-size, s .current .len)
+
+    pub state-size : length order ≡ length (flat bs) + (length (g .txs) + length (behind os)) + length rest
+    state-size =
+        ap length (s .lies) ∙ length-append (flat bs) ((front ++ g .txs) ++ (back ++ rest))
+        ∙ omega (
+          arith,
+          length-append (front ++ g .txs) (back ++ rest),
+          length-append back rest,
+          length-drop ahead (behind os),
+          part-size,
+          s .current .len,
+          s .few,
+        )
+
+    -- the members ahead go behind the current group's: all that were stepped over stand behind it
+    pub brought : {end : ℕ} {new : List ℕ} → end ≡ from + ahead + cur .len
+        → new ≡ drop ahead (midOf from (end - from) order) ++ take ahead (midOf from (end - from) order)
+        → putMid from (end - from) order new ≡ flat bs ++ (g .txs ++ (behind os ++ rest))
+    brought {end} {new} e n =
+        let k : length (front ++ g .txs) ≡ end - from = omega (arith, part-size) in
+        let mid : midOf from (end - from) order ≡ front ++ g .txs =
+        ap (midOf from (end - from)) (s .lies) ∙ mid-at (flat bs) (front ++ g .txs) (back ++ rest) from (end - from) (sym (s .start)) k
+        in
+        let turned : new ≡ g .txs ++ front =
+        n ∙ ap (λ (l : List ℕ). drop ahead l ++ take ahead l) mid
+        ∙ ap₂ _++_ (drop-at front (g .txs) ahead front-size) (take-at front (g .txs) ahead front-size)
+        in
+        ap (λ (l : List ℕ). putMid from (end - from) l new) (s .lies)
+        ∙ put-at (flat bs) (front ++ g .txs) (back ++ rest) new from (end - from) (sym (s .start)) k
+        ∙ ap (λ (l : List ℕ). flat bs ++ l)
+        (ap (λ (l : List ℕ). l ++ (back ++ rest)) turned ∙ append-assoc (g .txs) front (back ++ rest)
+        ∙ ap (λ (l : List ℕ). g .txs ++ l) (sym (append-assoc front back rest) ∙ ap (λ (l : List ℕ). l ++ rest) (take-append-drop ahead (behind os))))
+
+  pub scan-room : Scan ws goal rest order groups cur below from ahead over → Room order cur below from ahead over
+  scan-room v =
+      let s = v .state in
+      record {
+        fit = omega (arith, state-size s, s .start, s .few, s .current .len);
+        few = omega (arith, state-size s, few-flat (s .under), few-flat (s .gone), length-behind (v .os), s .low, s .high, s .current .some);
+      }
+
+  pub rest-empty : Scan ws goal rest order groups cur below from ahead over → below ≡ 0 → Rest ws goal rest order groups cur below from ahead over
+  unfolding settle
+  rest-empty v e = record { bs = v .bs; os = v .os; g = v .g; state = v .state; settled = go (v .bs) (omega (arith, v .state .low)) }
+    where
+      go : (bs : List Group) → length bs ≡ 0 → settle (onOf ws) (v .g) bs ≡ v .g ∷ bs
+      go [] n = refl
+      go (b ∷ bs) n = absurd (omega arith)
+
+  module _ {prev : Summary} (u : Top ws goal rest order groups cur below from ahead over prev) where
+    -- the group on top stands in the list before the members ahead
+    pub top-len : prev .len ≤ from
+    unfolding flat
+    top-len = omega (arith, u .top .len, u .state .start, length-append (flat (u .bs)) (u .p .txs))
+
+    -- the code's two tests are those of the definition
+    is-above : higher (u .g .rate) (u .p .rate) ≡ higher (cur .rate) (prev .rate)
+    is-above = sym (ap₂ higher (u .state .current .rate) (u .top .rate))
+
+    is-dependent : dependsOn (onOf ws) (u .g) (u .p) ≡ overlap (cur .deps) (prev .set)
+    is-dependent = sym (overlap-depends (u .state .current) (u .top))
+
+    settle-merge : higher (cur .rate) (prev .rate) ≡ true → overlap (cur .deps) (prev .set) ≡ true
+        → settle (onOf ws) (u .g) (u .p ∷ u .bs) ≡ settle (onOf ws) (absorb (u .p) (u .g)) (u .bs)
+    unfolding settle
+    settle-merge h d = rw (is-above ∙ h, is-dependent ∙ d)
+
+    settle-step : higher (cur .rate) (prev .rate) ≡ true → overlap (cur .deps) (prev .set) ≡ false
+        → settle (onOf ws) (u .g) (u .p ∷ u .bs) ≡ u .p ∷ settle (onOf ws) (u .g) (u .bs)
+    unfolding settle
+    settle-step h d = rw (is-above ∙ h, is-dependent ∙ d)
+
+    settle-stop : higher (cur .rate) (prev .rate) ≡ false → settle (onOf ws) (u .g) (u .p ∷ u .bs) ≡ u .g ∷ u .p ∷ u .bs
+    unfolding settle
+    settle-stop h = rw (is-above ∙ h)
+
+    pub rest-top : higher (cur .rate) (prev .rate) ≡ false → Rest ws goal rest order groups cur below from ahead over
+    rest-top h = record { bs = u .p ∷ u .bs; os = u .os; g = u .g; state = u .state; settled = settle-stop h }
+
+    -- the current group moves up to the one before it, and the two are one
+    pub scan-merge : {end : ℕ} {new : List ℕ} {both : Summary} → higher (cur .rate) (prev .rate) ≡ true → overlap (cur .deps) (prev .set) ≡ true
+        → end ≡ from + ahead + cur .len → new ≡ drop ahead (midOf from (end - from) order) ++ take ahead (midOf from (end - from) order)
+        → Joined prev cur both
+        → Scan ws goal rest (putMid from (end - from) order new) groups both (below - 1) (from - prev .len) 0 over
+    unfolding flat
+    scan-merge h d e n j =
+        let s = u .state in
+        record {
+          bs = u .bs;
+          os = u .os;
+          g = absorb (u .p) (u .g);
+          state = record {
+            under = u .under;
+            gone = s .gone;
+            current = joined-stands j (u .top) (s .current);
+            low = omega (arith, s .low);
+            high = s .high;
+            start = omega (arith, u .top .len, s .start, length-append (flat (u .bs)) (u .p .txs));
+            few = omega arith;
+            lies = brought s e n ∙ append-assoc (flat (u .bs)) (u .p .txs) (u .g .txs ++ (behind (u .os) ++ rest))
+                ∙ ap (λ (l : List ℕ). flat (u .bs) ++ l) (sym (append-assoc (u .p .txs) (u .g .txs) (behind (u .os) ++ rest)));
+            comes = ap (reverseAux (u .os)) (sym (settle-merge h d)) ∙ s .comes;
+          };
+        }
+
+    -- the current group leaves the one before it as it is
+    pub scan-step : higher (cur .rate) (prev .rate) ≡ true → overlap (cur .deps) (prev .set) ≡ false → length groups ≡ 64 → below + over < 64
+        → Scan ws goal rest order (set groups (63 - over) prev) cur (below - 1) (from - prev .len) (ahead + prev .len) (over + 1)
+    unfolding flat behind
+    scan-step h d l r =
+        let s = u .state in
+        let size : ahead + prev .len ≡ length (u .p .txs) + ahead = omega (arith, u .top .len) in
+        let long = length-append (u .p .txs) (behind (u .os)) in
+        let over-front : take (ahead + prev .len) (u .p .txs ++ behind (u .os)) ≡ u .p .txs ++ front s =
+        ap (λ (n : ℕ). take n (u .p .txs ++ behind (u .os))) size ∙ take-append-add (u .p .txs) (behind (u .os)) ahead
+        in
+        let over-back : drop (ahead + prev .len) (u .p .txs ++ behind (u .os)) ≡ back s =
+        ap (λ (n : ℕ). drop n (u .p .txs ++ behind (u .os))) size ∙ drop-append-add (u .p .txs) (behind (u .os)) ahead
+        in
+        record {
+          bs = u .bs;
+          os = u .p ∷ u .os;
+          g = u .g;
+          state = record {
+            under = stack-kept (63 - over) prev (λ n i e. omega (arith, s .low)) (u .under);
+            gone = rw (s .high) (stack-push (s .gone) (omega (arith, s .high)) (λ n i e. omega (arith, s .high)) (u .top));
+            current = s .current;
+            low = omega (arith, s .low);
+            high = omega (arith, s .high);
+            start = omega (arith, u .top .len, s .start, length-append (flat (u .bs)) (u .p .txs));
+            few = omega (arith, s .few);
+            lies = s .lies ∙ append-assoc (flat (u .bs)) (u .p .txs) ((front s ++ u .g .txs) ++ (back s ++ rest))
+                ∙ ap (λ (l : List ℕ). flat (u .bs) ++ l)
+                (sym (append-assoc (u .p .txs) (front s ++ u .g .txs) (back s ++ rest))
+                ∙ ap (λ (l : List ℕ). l ++ (back s ++ rest)) (sym (append-assoc (u .p .txs) (front s) (u .g .txs)))
+                ∙ ap₂ (λ (l m : List ℕ). (l ++ u .g .txs) ++ (m ++ rest)) (sym over-front) (sym over-back));
+            comes = ap (reverseAux (u .os)) (sym (settle-step h d)) ∙ s .comes;
+          };
+        }
+
+-- ---- after the scan
+
+-- the groups stepped over go back on top, one by one: bs stand in the array already, os are still to come
+pub record Back (ws : List ℕ) (goal : List Group) (groups : List Summary) (count over : ℕ) : Type 0 where
+  pub bs : List Group
+  pub os : List Group
+  pub under : Near ws groups bs
+  pub gone : Far ws groups os
+  pub low : count ≡ length bs
+  pub high : over ≡ length os
+  pub comes : reverseAux os bs ≡ goal
+
+module _ {ws : List ℕ} {goal : List Group} {rest order : List ℕ} {groups : List Summary} {cur : Summary} {below from ahead over : ℕ}
+    (v : Rest ws goal rest order groups cur below from ahead over) where
+  comes-to : reverseAux (v .os) (v .g ∷ v .bs) ≡ goal
+  comes-to = ap (reverseAux (v .os)) (sym (v .settled)) ∙ v .state .comes
+
+  pub placed : length groups ≡ 64 → below + over < 64 → Back ws goal (set groups below cur) (below + 1) over
+  placed l r =
+      let s = v .state in
+      record {
+        bs = v .g ∷ v .bs;
+        os = v .os;
+        under = rw (s .low) (stack-push (s .under) (omega (arith, s .low)) (λ n i e. omega arith) (s .current));
+        gone = stack-kept below cur (λ n i e. omega (arith, s .high)) (s .gone);
+        low = omega (arith, s .low);
+        high = s .high;
+        comes = comes-to;
+      }
+
+  pub placed-lies : {end : ℕ} {new : List ℕ} → end ≡ from + ahead + cur .len
+      → new ≡ drop ahead (midOf from (end - from) order) ++ take ahead (midOf from (end - from) order)
+      → putMid from (end - from) order new ≡ flat goal ++ rest
+  unfolding flat
+  placed-lies e n =
+      let txs = v .g .txs in
+      let gone = behind (v .os) in
+      brought (v .state) e n
+      ∙ sym (append-assoc (flat (v .bs)) txs (gone ++ rest))
+      ∙ sym (append-assoc (flat (v .bs) ++ txs) gone rest)
+      ∙ ap (λ (l : List ℕ). l ++ rest) (sym (flat-back (v .os) (v .g ∷ v .bs)) ∙ ap flat comes-to)
+
+pub back-turn : {ws : List ℕ} {goal : List Group} {groups : List Summary} {count over : ℕ} (d : Summary)
+    → Back ws goal groups count over → 0 < over → length groups ≡ 64 → count + over ≤ 64
+    → Back ws goal (set groups count (getD groups (63 - (over - 1)) d)) (count + 1) (over - 1)
+back-turn {ws} {goal} {groups} {count} {over} d v h l r = go (v .gone) (v .high) (v .comes)
+  where
+    go : {os : List Group} → Far ws groups os → over ≡ length os → reverseAux os (v .bs) ≡ goal
+        → Back ws goal (set groups count (getD groups (63 - (over - 1)) d)) (count + 1) (over - 1)
+    go none e z = absurd (omega arith)
+    go (more p os n t w) e z =
+        let i : over - 1 ≡ length os = omega arith in
+        record {
+          bs = p ∷ v .bs;
+          os = os;
+          under = rw (v .low) (stack-push (v .under) (omega (arith, v .low)) (λ n j x. omega arith) (rw i (t d)));
+          gone = stack-kept count (getD groups (63 - (over - 1)) d) (λ n j x. omega arith) w;
+          low = omega (arith, v .low);
+          high = i;
+          comes = z;
+        }
+
+-- all are back
+pub back-done : {ws : List ℕ} {goal : List Group} {groups : List Summary} {count over : ℕ} → Back ws goal groups count over → over ≤ 0
+    → (Near ws groups goal) × (count ≡ length goal)
+back-done {ws} {goal} {groups} {count} {over} v h = go (v .os) (omega (arith, v .high)) (v .comes)
+  where
+    go : (os : List Group) → length os ≤ 0 → reverseAux os (v .bs) ≡ goal → (Near ws groups goal) × (count ≡ length goal)
+    go [] n z = (rw z at (v .under), v .low ∙ ap length z)
+    go (o ∷ os) n z = absurd (omega arith)
+
+-- ---- a member, from the head of the loop to its end
+
+module _ {rate : ℕ → FeeFrac} {ws order₀ order : List ℕ} {groups : List Summary} {count k : ℕ}
+    (v : Outer rate ws order₀ order groups count k) (h : k < length order₀) where
+  abbrev gs : List Group
+  gs = groupsAfter rate (onOf ws) [] (take k order₀)
+
+  next-is : getD order k 0 ≡ getD order₀ k 0
+  next-is =
+      ap (λ (l : List ℕ). getD l k 0) (v .held .lies ∙ ap (λ (l : List ℕ). flat gs ++ l) (drop-cons order₀ k 0 h))
+      ∙ getD-at (flat gs) (getD order₀ k 0) (drop (suc k) order₀) 0 k (sym (v .held .size))
+
+  pub outer-next : Held ws gs (getD order k 0 ∷ drop (k + 1) order₀) order groups count k
+  outer-next =
+      record {
+        stack = v .held .stack;
+        many = v .held .many;
+        size = v .held .size;
+        lies = rw (add-one, next-is) (v .held .lies ∙ ap (λ (l : List ℕ). flat gs ++ l) (drop-cons order₀ k 0 h));
+      }
+
+  pub outer-again : {order′ : List ℕ} {groups′ : List Summary} {count′ : ℕ}
+      → (Near ws groups′ (settle (onOf ws) (alone rate (getD order k 0)) gs)) × (count′ ≡ length (settle (onOf ws) (alone rate (getD order k 0)) gs))
+      → order′ ≡ flat (settle (onOf ws) (alone rate (getD order k 0)) gs) ++ drop (k + 1) order₀
+      → length order′ ≡ length order → length groups′ ≡ 64 → Outer rate ws order₀ order′ groups′ count′ (k + 1)
+  outer-again {order′} {groups′} {count′} b e same long =
+      let goal = settle (onOf ws) (alone rate (getD order k 0)) gs in
+      let is : groupsAfter rate (onOf ws) [] (take (k + 1) order₀) ≡ goal =
+      rw (add-one, take-suc order₀ k 0 h, after-snoc, next-is)
+      in
+      record {
+        held = rw is (record {
+          stack = b .0;
+          many = b .1;
+          size = omega (arith, v .same, ap length e, length-append (flat goal) (drop (k + 1) order₀), length-drop (k + 1) order₀);
+          lies = e;
+        });
+        within = omega arith;
+        same = same ∙ v .same;
+        small = omega (arith, v .small);
+        long = long;
+      }
+
+-- all members are in their groups
+pub outer-done : {rate : ℕ → FeeFrac} {ws order₀ order : List ℕ} {groups : List Summary} {count k : ℕ}
+    → Outer rate ws order₀ order groups count k → length order₀ ≤ k → order ≡ onePass rate (onOf ws) order₀
+unfolding onePass
+outer-done {rate} {ws} {order₀} {k = k} v h =
+    v .held .lies
+    ∙ ap₂ (λ (l m : List ℕ). flat (groupsAfter rate (onOf ws) [] l) ++ m) (take-all k order₀ h) (drop-of-length-le order₀ h)
+    ∙ append-nil (flat (groupsAfter rate (onOf ws) [] order₀))
+
+module _ {rate : ℕ → FeeFrac} {ws order₀ order : List ℕ} {groups : List Summary} {count k : ℕ} where
+  -- the member is a group of its own, on top of the others
+  pub inner-start : {cur : Summary} → Outer rate ws order₀ order groups count k → k < length order₀ → Stands ws cur (alone rate (getD order k 0))
+      → Inner rate ws order groups count k (getD order k 0) order groups cur count k 0 0
+  inner-start v h a =
+      record {
+        same = refl;
+        small = v .small;
+        long = v .long;
+        room = scan-room (scan-start rate (outer-next v h) a);
+        scan = λ gs rest g. scan-start rate g a;
+      }
+
+module _ {rate : ℕ → FeeFrac} {ws order₀ : List ℕ} {groups₀ : List Summary} {count k t : ℕ} {order : List ℕ} {groups : List Summary} {cur : Summary}
+    {below from ahead over : ℕ} {gs : List Group} {rest : List ℕ}
+    (v : Inner rate ws order₀ groups₀ count k t order groups cur below from ahead over) (held : Held ws gs (t ∷ rest) order₀ groups₀ count k)
+    (some : 0 < below) (d : Summary) where
+  abbrev prev : Summary
+  prev = getD groups (below - 1) d
+
+  pub inner-len : prev .len ≤ from
+  inner-len = top-len (uncover d (v .scan gs rest held) some)
+
+  pub inner-merge : {end : ℕ} {new : List ℕ} {both : Summary} → higher (cur .rate) (prev .rate) ≡ true → overlap (cur .deps) (prev .set) ≡ true
+      → end ≡ from + ahead + cur .len → new ≡ drop ahead (midOf from (end - from) order) ++ take ahead (midOf from (end - from) order)
+      → Joined prev cur both
+      → Inner rate ws order₀ groups₀ count k t (putMid from (end - from) order new) groups both (below - 1) (from - prev .len) 0 over
+  inner-merge {end} {new} h o e n j =
+      let long = length-rotated from (end - from) ahead order n in
+      record {
+        same = long ∙ v .same;
+        small = omega (arith, v .small);
+        long = v .long;
+        room = scan-room (scan-merge (uncover d (v .scan gs rest held) some) h o e n j);
+        scan = λ gs rest held. scan-merge (uncover d (v .scan gs rest held) some) h o e n j;
+      }
+
+  pub inner-step : higher (cur .rate) (prev .rate) ≡ true → overlap (cur .deps) (prev .set) ≡ false
+      → Inner rate ws order₀ groups₀ count k t order (set groups (63 - over) prev) cur (below - 1) (from - prev .len) (ahead + prev .len) (over + 1)
+  inner-step h o =
+      let apart : below + over < 64 = omega (arith, v .room .few, v .small) in
+      record {
+        same = v .same;
+        small = v .small;
+        long = length-set groups (63 - over) prev ∙ v .long;
+        room = scan-room (scan-step (uncover d (v .scan gs rest held) some) h o (v .long) apart);
+        scan = λ gs rest held. scan-step (uncover d (v .scan gs rest held) some) h o (v .long) apart;
+      }
+
+-- why the scan ends, and at what index: no group is left, or the one before is not lower
+pub data Stopped (groups : List Summary) (cur : Summary) (below : ℕ) : ℕ → Type 0 where
+  at-bottom : below ≡ 0 → Stopped groups cur below 0
+  at-top : (d : Summary) → 0 < below → higher (cur .rate) (getD groups (below - 1) d .rate) ≡ false → Stopped groups cur below below
+
+pub stopped-at : {groups : List Summary} {cur : Summary} {below at : ℕ} → Stopped groups cur below at → at ≡ below
+stopped-at (at-bottom e) = sym e
+stopped-at (at-top d h e) = refl
+
+module _ {rate : ℕ → FeeFrac} {ws order₀ : List ℕ} {groups₀ : List Summary} {count k t : ℕ} {order : List ℕ} {groups : List Summary} {cur : Summary}
+    {below from ahead over at : ℕ} {gs : List Group} {rest : List ℕ}
+    (v : Inner rate ws order₀ groups₀ count k t order groups cur below from ahead over) (held : Held ws gs (t ∷ rest) order₀ groups₀ count k)
+    (stop : Stopped groups cur below at) where
+  inner-rest : Rest ws (settle (onOf ws) (alone rate t) gs) rest order groups cur below from ahead over
+  inner-rest = go stop
+    where
+      go : {at : ℕ} → Stopped groups cur below at → Rest ws (settle (onOf ws) (alone rate t) gs) rest order groups cur below from ahead over
+      go (at-bottom e) = rest-empty (v .scan gs rest held) e
+      go (at-top d h e) = rest-top (uncover d (v .scan gs rest held) h) e
+
+  pub inner-placed : Back ws (settle (onOf ws) (alone rate t) gs) (set groups at cur) (at + 1) over
+  inner-placed = rw (stopped-at stop) (placed inner-rest (v .long) (omega (arith, v .room .few, v .small)))
+
+  pub inner-lies : {end : ℕ} {new : List ℕ} → end ≡ from + ahead + cur .len
+      → new ≡ drop ahead (midOf from (end - from) order) ++ take ahead (midOf from (end - from) order)
+      → putMid from (end - from) order new ≡ flat (settle (onOf ws) (alone rate t) gs) ++ rest
+  inner-lies e n = placed-lies inner-rest e n
+
+  pub inner-same : {end : ℕ} {new : List ℕ} → end ≡ from + ahead + cur .len
+      → new ≡ drop ahead (midOf from (end - from) order) ++ take ahead (midOf from (end - from) order)
+      → length (putMid from (end - from) order new) ≡ length order₀
+  inner-same {end} e n = length-rotated from (end - from) ahead order n ∙ v .same
+
+-- at the head of the loop that puts the groups stepped over back: whatever the groups are
+pub record Moved (ws : List ℕ) (groups₀ : List Summary) (count₀ over₀ : ℕ) (groups : List Summary) (count over : ℕ) : Type 0 where
+  pub long : length groups ≡ 64
+  pub room : count + over ≤ 64
+  pub back : (goal : List Group) → Back ws goal groups₀ count₀ over₀ → Back ws goal groups count over
+
+pub moved-start : {ws : List ℕ} {groups : List Summary} {count over : ℕ} → length groups ≡ 64 → count + over ≤ 64
+    → Moved ws groups count over groups count over
+moved-start l r = record { long = l; room = r; back = λ goal b. b }
+
+pub moved-turn : {ws : List ℕ} {groups₀ : List Summary} {count₀ over₀ : ℕ} {groups : List Summary} {count over : ℕ} (d : Summary)
+    → Moved ws groups₀ count₀ over₀ groups count over → 0 < over
+    → Moved ws groups₀ count₀ over₀ (set groups count (getD groups (63 - (over - 1)) d)) (count + 1) (over - 1)
+moved-turn {groups = groups} {count = count} {over = over} d v h =
+    record {
+      long = length-set groups count (getD groups (63 - (over - 1)) d) ∙ v .long;
+      room = omega (arith, v .room);
+      back = λ goal b. back-turn d (v .back goal b) h (v .long) (v .room);
+    }

@@ -1,0 +1,258 @@
+-- What a pass leaves as it is: each position comes as often as before. So there are as many, the members are the same, and none comes
+-- twice where none did. Then what the sums of its groups are. Assumes nothing.
+use mathlib.Core.Path.{_≡_, refl, sym, ap, ap₂, _∙_}
+use mathlib.Core.Bool.{Bool, true, false, not, _&&_, _||_}
+use mathlib.Core.Logic.{⊎-elim}
+use mathlib.Core.List.{List, [], _∷_, _++_, map, map-append, reverse, reverse-cons, List·Memᴰ, List·Memᴰ·cases-cons, List·Memᴰ·not-nil}
+use Prim.Native.Nat.{ℕ, _+_, _*_, _^_, _≤_, _<_}
+use native.Mathlib.Omega.{arith}
+use lib.Dec.{eqb}
+use lib.IntN.{ℤ, pos, negℤ, natAbs, _+ℤ_, +ℤ-idr, +ℤ-comm}
+use lib.ListN.{length, getD, length-append, length-reverse}
+use borrow.Author.Tests.{eq-eqb, eqb-true}
+use Rattle.feefrac.specs.declared.FeeFrac.{FeeFrac}
+use Rattle.feefrac.specs.Rate.{pick, heldSize, sum, higher, negated, rateAt}
+use Rattle.feefrac.proofs.Picks.{pick-where}
+use Rattle.feefrac.proofs.Exact.{abs-neg, held-near, sum-exact, exactSum, exact-append, spread, spread-append, abs-exact, sumOf, sumOf-append, feeLimit, Within, within-at}
+use Rattle.txset.specs.Below.{bit}
+use Rattle.txset.specs.Lists.{elem, anyOf, distinct}
+use Rattle.txset.proofs.Below.{clash}
+use Rattle.txset.proofs.Words.{Fits}
+use Rattle.passes.proofs.Lists.{false-together}
+use Rattle.passes.specs.Pass.{Group, absorb, dependsOn, settle, alone, groupsAfter, flat, onePass, backPass, forwardPass}
+
+-- how often i comes
+unfoldable pub occurs : ℕ → List ℕ → ℕ
+occurs i [] = 0
+occurs i (x ∷ xs) = bit (eqb i x) + occurs i xs
+
+-- a count m that goes by a list's parts is the same before and after a pass
+module _ (m : List ℕ → ℕ) (none : m [] ≡ 0) (parts : (xs ys : List ℕ) → m (xs ++ ys) ≡ m xs + m ys) where
+  settle-keeps : (dep : ℕ → ℕ → Bool) (cur : Group) (gs : List Group) → m (flat (settle dep cur gs)) ≡ m (flat gs) + m (cur .txs)
+  unfolding flat settle
+  settle-keeps dep cur [] = omega (arith, none)
+  settle-keeps dep cur (g ∷ gs) =
+      let all = parts (flat gs) (g .txs) in
+      let P : List Group → Type 0 = λ l. m (flat l) ≡ m (flat gs ++ g .txs) + m (cur .txs) in
+      pick-where P (higher (cur .rate) (g .rate))
+      (λ _. pick-where P (dependsOn dep cur g)
+      (λ _. omega (arith, settle-keeps dep (absorb g cur) gs, parts (g .txs) (cur .txs)))
+      (λ _. omega (arith, settle-keeps dep cur gs, parts (flat (settle dep cur gs)) (g .txs))))
+      (λ _. parts (flat gs ++ g .txs) (cur .txs))
+
+  after-keeps : (rate : ℕ → FeeFrac) (dep : ℕ → ℕ → Bool) (gs : List Group) (ts : List ℕ) → m (flat (groupsAfter rate dep gs ts)) ≡ m (flat gs) + m ts
+  unfolding groupsAfter
+  after-keeps rate dep gs [] = omega (arith, none)
+  after-keeps rate dep gs (t ∷ ts) =
+      omega (arith, after-keeps rate dep (settle dep (alone rate t) gs) ts, settle-keeps dep (alone rate t) gs, parts (t ∷ []) ts)
+
+  reverse-keeps : (xs : List ℕ) → m (reverse xs) ≡ m xs
+  reverse-keeps [] = refl
+  reverse-keeps (x ∷ xs) = omega (arith, ap m (reverse-cons x xs), parts (reverse xs) (x ∷ []), parts (x ∷ []) xs, reverse-keeps xs)
+
+  pass-keeps : (rate : ℕ → FeeFrac) (dep : ℕ → ℕ → Bool) (order : List ℕ) → m (onePass rate dep order) ≡ m order
+  unfolding onePass flat
+  pass-keeps rate dep order = omega (arith, after-keeps rate dep [] order, none)
+
+occurs-append : (i : ℕ) (xs ys : List ℕ) → occurs i (xs ++ ys) ≡ occurs i xs + occurs i ys
+unfolding occurs
+occurs-append i [] ys = omega arith
+occurs-append i (x ∷ xs) ys = omega (arith, occurs-append i xs ys)
+
+-- ---- none comes twice exactly if each comes once at most
+
+absent : (i : ℕ) (xs : List ℕ) → elem i xs ≡ false → occurs i xs ≡ 0
+unfolding elem anyOf occurs
+absent i [] e = refl
+absent i (x ∷ xs) e = go (eqb i x) e (absent i xs)
+  where
+    go : (b : Bool) → (b || elem i xs) ≡ false → (elem i xs ≡ false → occurs i xs ≡ 0) → bit b + occurs i xs ≡ 0
+    go true e h = clash refl e
+    go false e h = omega (arith, h e)
+
+never : (i : ℕ) (xs : List ℕ) → occurs i xs ≡ 0 → elem i xs ≡ false
+unfolding elem anyOf occurs
+never i [] e = refl
+never i (x ∷ xs) e = go (eqb i x) e (never i xs)
+  where
+    go : (b : Bool) → bit b + occurs i xs ≡ 0 → (occurs i xs ≡ 0 → elem i xs ≡ false) → (b || elem i xs) ≡ false
+    go true e h = absurd (omega arith)
+    go false e h = h (omega arith)
+
+and-left : (a b : Bool) → (not a && b) ≡ true → a ≡ false
+and-left true b e = clash e refl
+and-left false b e = refl
+
+and-right : (a b : Bool) → (not a && b) ≡ true → b ≡ true
+and-right true b e = clash e refl
+and-right false b e = e
+
+distinct-once : (xs : List ℕ) → distinct xs ≡ true → (i : ℕ) → occurs i xs ≤ 1
+unfolding distinct occurs
+distinct-once [] e i = omega arith
+distinct-once (x ∷ xs) e i = go (eqb i x) refl (distinct-once xs (and-right (elem x xs) (distinct xs) e) i)
+  where
+    go : (b : Bool) → eqb i x ≡ b → occurs i xs ≤ 1 → bit b + occurs i xs ≤ 1
+    go true d h = omega (arith, ap (λ (j : ℕ). occurs j xs) (eqb-true i x d), absent x xs (and-left (elem x xs) (distinct xs) e))
+    go false d h = omega arith
+
+once-distinct : (xs : List ℕ) → ((i : ℕ) → occurs i xs ≤ 1) → distinct xs ≡ true
+unfolding distinct occurs
+once-distinct [] h = refl
+once-distinct (x ∷ xs) h =
+    let here : bit (eqb x x) ≡ 1 = ap bit (eq-eqb x x refl) in
+    ap₂ (λ (a b : Bool). not a && b) (never x xs (omega (arith, h x))) (once-distinct xs (λ i. omega (arith, h i)))
+
+-- ---- the theorems
+
+-- ys has the elements of xs, in some order
+pub record Same (xs ys : List ℕ) : Type 0 where
+  pub each : (i : ℕ) → occurs i ys ≡ occurs i xs
+  pub members : (i : ℕ) → elem i ys ≡ elem i xs
+  pub long : length ys ≡ length xs
+  pub once : distinct xs ≡ true → distinct ys ≡ true
+
+-- where every count that goes by a list's parts is the same
+same : {xs ys : List ℕ} → ((m : List ℕ → ℕ) → m [] ≡ 0 → ((l r : List ℕ) → m (l ++ r) ≡ m l + m r) → m ys ≡ m xs) → Same xs ys
+unfolding occurs
+same {xs} {ys} keeps =
+    let e : (i : ℕ) → occurs i ys ≡ occurs i xs = λ i. keeps (occurs i) refl (occurs-append i) in
+    record {
+      each = e;
+      members = λ i.
+          false-together (elem i ys) (elem i xs) (λ n. never i xs (sym (e i) ∙ absent i ys n)) (λ n. never i ys (e i ∙ absent i xs n));
+      long = keeps length refl length-append;
+      once = λ h. once-distinct ys (λ i. omega (arith, e i, distinct-once xs h i));
+    }
+
+pub pass-same : (rate : ℕ → FeeFrac) (dep : ℕ → ℕ → Bool) (order : List ℕ) → Same order (onePass rate dep order)
+pass-same rate dep order = same (λ m z p. pass-keeps m z p rate dep order)
+
+pub forward-same : (fs : List ℤ) (ss : List ℕ) (anc : ℕ → ℕ → Bool) (order : List ℕ) → Same order (forwardPass fs ss anc order)
+unfolding forwardPass
+forward-same fs ss anc order = pass-same (rateAt fs ss) anc order
+
+pub back-same : (fs : List ℤ) (ss : List ℕ) (desc : ℕ → ℕ → Bool) (order : List ℕ) → Same order (backPass fs ss desc order)
+unfolding backPass
+back-same fs ss desc order =
+    let rate : ℕ → FeeFrac = λ i. negated (rateAt fs ss i) in
+    same (λ m z p. reverse-keeps m z p (onePass rate desc (reverse order)) ∙ pass-keeps m z p rate desc (reverse order) ∙ reverse-keeps m z p order)
+
+-- ---- the sums of the groups
+
+-- the fees and the sizes of some members, as the pass reads them
+abbrev pub feesOf : (ℕ → FeeFrac) → List ℕ → List ℤ
+feesOf rate ts = map (λ t. rate t .fee) ts
+
+abbrev pub sizesOf : (ℕ → FeeFrac) → List ℕ → List ℕ
+sizesOf rate ts = map (λ t. rate t .size) ts
+
+-- the group's fee is exactly the sum of its members' fees, and its size that of their sizes, or 2^64 - 1 where that is more
+pub record Sums (rate : ℕ → FeeFrac) (g : Group) : Type 0 where
+  pub fee : g .rate .fee ≡ exactSum (feesOf rate (g .txs))
+  pub size : g .rate .size ≡ heldSize (sumOf (sizesOf rate (g .txs)))
+
+module _ (rate : ℕ → FeeFrac) where
+  -- how far the fees are from zero together
+  abbrev far : List ℕ → ℕ
+  far ts = spread (feesOf rate ts)
+
+  far-append : (xs ys : List ℕ) → far (xs ++ ys) ≡ far xs + far ys
+  far-append xs ys = ap spread (map-append (λ t. rate t .fee) xs ys) ∙ spread-append (feesOf rate xs) (feesOf rate ys)
+
+  -- a member of its own
+  pub alone-sums : (t : ℕ) → rate t .size < 2 ^ 64 → Sums rate (alone rate t)
+  unfolding exactSum sumOf
+  alone-sums t h = record { fee = sym (+ℤ-idr (rate t .fee)); size = omega arith }
+
+  -- and two groups as one
+  pub absorb-sums : (g cur : Group) → spread (feesOf rate (g .txs)) + spread (feesOf rate (cur .txs)) < 9223372036854775808
+      → Sums rate g → Sums rate cur → Sums rate (absorb g cur)
+  unfolding sum
+  absorb-sums g cur h p q =
+      let xs = g .txs in
+      let ys = cur .txs in
+      let e : sumOf (sizesOf rate (xs ++ ys)) ≡ sumOf (sizesOf rate xs) + sumOf (sizesOf rate ys) =
+      ap sumOf (map-append (λ t. rate t .size) xs ys) ∙ sumOf-append (sizesOf rate xs) (sizesOf rate ys) in
+      record {
+        fee =
+            sum-exact (cur .rate) (g .rate)
+            (omega (arith, ap natAbs (p .fee), ap natAbs (q .fee), abs-exact (feesOf rate xs), abs-exact (feesOf rate ys)))
+            ∙ ap₂ _+ℤ_ (q .fee) (p .fee) ∙ +ℤ-comm (exactSum (feesOf rate ys)) (exactSum (feesOf rate xs))
+            ∙ sym (ap exactSum (map-append (λ t. rate t .fee) xs ys) ∙ exact-append (feesOf rate xs) (feesOf rate ys));
+        size = omega (arith, p .size, q .size);
+      }
+
+  -- each group has them
+  AllSums : List Group → Type 0
+  AllSums [] = Unit {0}
+  AllSums (g ∷ gs) = Sums rate g × AllSums gs
+
+  all-at : (gs : List Group) → AllSums gs → (g : Group) → List·Memᴰ g gs → Sums rate g
+  unfolding AllSums
+  all-at [] p g m = absurd (List·Memᴰ·not-nil m)
+  all-at (x ∷ xs) p g m = ⊎-elim (λ e. rw e (p .0)) (λ n. all-at xs (p .1) g n) (List·Memᴰ·cases-cons m)
+
+  settle-sums : (dep : ℕ → ℕ → Bool) (cur : Group) (gs : List Group) → far (flat gs) + far (cur .txs) < 9223372036854775808
+      → Sums rate cur → AllSums gs → AllSums (settle dep cur gs)
+  unfolding AllSums flat settle
+  settle-sums dep cur [] h p q = (p, tt)
+  settle-sums dep cur (g ∷ gs) h p q =
+      pick-where AllSums (higher (cur .rate) (g .rate))
+      (λ _. pick-where AllSums (dependsOn dep cur g)
+      (λ _. settle-sums dep (absorb g cur) gs (omega (arith, far-append (flat gs) (g .txs), far-append (g .txs) (cur .txs)))
+      (absorb-sums g cur (omega (arith, far-append (flat gs) (g .txs))) (q .0) p) (q .1))
+      (λ _. (q .0, settle-sums dep cur gs (omega (arith, far-append (flat gs) (g .txs))) p (q .1))))
+      (λ _. (p, q))
+
+  module _ (fit : (t : ℕ) → rate t .size < 2 ^ 64) where
+    after-sums : (dep : ℕ → ℕ → Bool) (gs : List Group) (ts : List ℕ) → far (flat gs) + far ts < 9223372036854775808 → AllSums gs
+        → AllSums (groupsAfter rate dep gs ts)
+    unfolding groupsAfter spread
+    after-sums dep gs [] h p = p
+    after-sums dep gs (t ∷ ts) h p =
+        after-sums dep (settle dep (alone rate t) gs) ts
+        (omega (arith, settle-keeps far refl far-append dep (alone rate t) gs))
+        (settle-sums dep (alone rate t) gs (omega arith) (alone-sums t (fit t)) p)
+
+    -- so every group of a pass, and after each member of it, where the fees, signs aside, stay below 2^63 together
+    pub pass-exact : (dep : ℕ → ℕ → Bool) (order : List ℕ) → spread (feesOf rate order) < 9223372036854775808
+        → (g : Group) → List·Memᴰ g (groupsAfter rate dep [] order) → Sums rate g
+    unfolding AllSums flat spread
+    pass-exact dep order h = all-at (groupsAfter rate dep [] order) (after-sums dep [] order (omega arith) tt)
+
+    -- and for at most 64 members with fees within the limit
+    pub pass-sums : (dep : ℕ → ℕ → Bool) (order : List ℕ) → length order ≤ 64 → ((t : ℕ) → natAbs (rate t .fee) ≤ feeLimit)
+        → (g : Group) → List·Memᴰ g (groupsAfter rate dep [] order) → Sums rate g
+    unfolding spread
+    pass-sums dep order few near = pass-exact dep order (omega (arith, near-far order))
+      where
+        near-far : (ts : List ℕ) → spread (feesOf rate ts) ≤ feeLimit * length ts
+        near-far [] = omega arith
+        near-far (t ∷ ts) = omega (arith, near t, near-far ts)
+
+-- ---- the two passes, with the fees and sizes of a cluster within the limits
+
+module _ (fs : List ℤ) (ss : List ℕ) (within : Within fs) (fits : Fits ss) where
+  -- a negated fee is exactly that
+  pub negated-fee : (t : ℕ) → negated (rateAt fs ss t) .fee ≡ negℤ (getD fs t (pos 0))
+  unfolding negated rateAt
+  negated-fee t = held-near (negℤ (getD fs t (pos 0))) (omega (arith, abs-neg (getD fs t (pos 0)), within-at fs within t))
+
+  -- every group of the forward pass
+  pub forward-sums : (anc : ℕ → ℕ → Bool) (order : List ℕ) → length order ≤ 64
+      → (g : Group) → List·Memᴰ g (groupsAfter (rateAt fs ss) anc [] order) → Sums (rateAt fs ss) g
+  unfolding rateAt
+  forward-sums anc order few = pass-sums (rateAt fs ss) fits anc order few (within-at fs within)
+
+  -- and of the one from the back, over the negated fees
+  pub back-sums : (desc : ℕ → ℕ → Bool) (order : List ℕ) → length order ≤ 64
+      → (let rate : ℕ → FeeFrac = λ i. negated (rateAt fs ss i) in
+      (g : Group) → List·Memᴰ g (groupsAfter rate desc [] (reverse order)) → Sums rate g)
+  unfolding negated rateAt
+  back-sums desc order few =
+      pass-sums (λ i. negated (rateAt fs ss i)) fit desc (reverse order) (omega (arith, length-reverse order))
+      (λ t. omega (arith, ap natAbs (negated-fee t), abs-neg (getD fs t (pos 0)), within-at fs within t))
+    where
+      fit : (t : ℕ) → negated (rateAt fs ss t) .size < 2 ^ 64
+      fit t = fits t

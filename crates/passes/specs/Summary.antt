@@ -1,0 +1,24 @@
+-- What the code keeps of a group: the contracts of its two ways to make such a summary. Assumes nothing.
+use Prim.Native.Nat.{ℕ, _+_}
+use mathlib.Core.Path.{_≡_}
+use mathlib.Core.Bool.{_&&_, _||_}
+use lib.Dec.{eqb}
+use Rattle.feefrac.specs.declared.FeeFrac.{FeeFrac}
+use Rattle.feefrac.specs.Rate.{sum}
+use Rattle.txset.specs.declared.TxSet.{TxSet}
+use Rattle.txset.specs.Sets.{mem, isPosition}
+use Rattle.passes.specs.declared.pass.Group.{Group}
+
+-- g is the summary of the member t alone
+pub record Single (t : ℕ) (on : TxSet) (r : FeeFrac) (g : Group) : Type 0 where
+  pub len : g .len ≡ 1
+  pub set : (i : ℕ) → mem (g .set) i ≡ (isPosition i && eqb i t)
+  pub deps : g .deps ≡ on
+  pub rate : g .rate ≡ r
+
+-- g is the summary of the two as one
+pub record Joined (prev cur g : Group) : Type 0 where
+  pub len : g .len ≡ prev .len + cur .len
+  pub set : (i : ℕ) → mem (g .set) i ≡ (mem (cur .set) i || mem (prev .set) i)
+  pub deps : (i : ℕ) → mem (g .deps) i ≡ (mem (cur .deps) i || mem (prev .deps) i)
+  pub rate : g .rate ≡ sum (cur .rate) (prev .rate)
