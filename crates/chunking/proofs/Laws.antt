@@ -5,20 +5,17 @@ use native.Mathlib.Nat.{not-suc-le-zero}
 use native.Mathlib.Numerals.{add-one}
 use native.Mathlib.Omega.{arith}
 use mathlib.Core.Path.{_≡_, refl, sym, ap, _∙_}
-use mathlib.Core.Bool.{true, false, not}
+use mathlib.Core.Bool.{true, false}
 use mathlib.Core.List.{List, [], _∷_, _++_, append-assoc}
 use lib.ListN.{length, drop, getD, set, length-set, length-append, length-drop, drop-of-length-le}
 use lib.Seq.{drop-cons, getD-set-same, getD-set-other, set-at}
 use lib.IntN.{ℤ}
-use borrow.Author.Tests.{eq-eqb, ne-eqb, lt-ltb, le-ltb, lt-leb, le-leb}
+use borrow.Author.Tests.{eq-eqb, ne-eqb, lt-leb, le-leb}
 use Rattle.feefrac.specs.declared.FeeFrac.{FeeFrac}
 use Rattle.feefrac.specs.Rate.{zeroRate, rateAt, sum, higher}
 use Rattle.txset.specs.Sets.{positions}
-use Rattle.refusals.specs.declared.Reply.{Reply}
-use Rattle.refusals.specs.Refusals.{answerOf, refusal, success, firstOutside, differ, tooMany, short}
-use Rattle.refusals.proofs.Laws.{given, passed-over, none-left, refuses, keeps, succeeds, writes, outside-some, outside-none}
 use Rattle.chunking.specs.declared.Chunk.{Chunk}
-use Rattle.chunking.specs.Chunks.{alone, swallow, chunksAfter, lengthsOf, chunkLengths, rates, refusals, reply, roomAfter, fits, written, filled}
+use Rattle.chunking.specs.Chunks.{alone, swallow, chunksAfter, lengthsOf, chunkLengths, rates, fits, written, filled}
 
 -- ---- the feerates of two lists
 
@@ -163,56 +160,6 @@ module _ {rs : List FeeFrac} {st : List Chunk} {n i : ℕ} (o : Outer rs st n i)
 
   pub count-done : n ≡ length (chunkLengths rs)
   count-done = sym (length-lengths st n) ∙ ap length lengths-done
-
--- ---- the answer
-
-module _ (fs : List ℤ) (ss room : List ℕ) where
-  -- the first refusal, by the tests that were passed
-  pub first-1 : (length fs ≡ length ss → ⊥) → answerOf (refusals fs ss room) ≡ 1
-  unfolding refusals
-  first-1 h = given 1 _ _ (ap not (ne-eqb (length fs) (length ss) h))
-
-  module _ (e : length fs ≡ length ss) where
-    past-1 : differ (length fs) (length ss) ≡ false
-    past-1 = ap not (eq-eqb (length fs) (length ss) e)
-
-    pub first-2 : positions < length fs → answerOf (refusals fs ss room) ≡ 2
-    unfolding refusals
-    first-2 h = passed-over 1 _ _ past-1 (given 2 _ _ (lt-ltb positions (length fs) h))
-
-    module _ (m : length fs ≤ positions) where
-      past-2 : tooMany (length fs) ≡ false
-      past-2 = le-ltb positions (length fs) m
-
-      pub first-11 : length room < length fs → answerOf (refusals fs ss room) ≡ 11
-      unfolding refusals
-      first-11 h = passed-over 1 _ _ past-1 (passed-over 2 _ _ past-2 (given 11 _ _ (lt-ltb (length room) (length fs) h)))
-
-      module _ (r : length fs ≤ length room) where
-        past-11 : short (length room) (length fs) ≡ false
-        past-11 = le-ltb (length room) (length fs) r
-
-        pub first-3 : firstOutside fs < length fs → answerOf (refusals fs ss room) ≡ 3
-        unfolding refusals
-        first-3 h = passed-over 1 _ _ past-1 (passed-over 2 _ _ past-2 (passed-over 11 _ _ past-11 (given 3 _ _ (outside-some fs h))))
-
-        pub first-none : length fs ≤ firstOutside fs → answerOf (refusals fs ss room) ≡ 0
-        unfolding refusals
-        first-none h =
-            passed-over 1 _ _ past-1 (passed-over 2 _ _ past-2 (passed-over 11 _ _ past-11 (passed-over 3 _ _ (outside-none fs h) none-left)))
-
-  -- what a call answers and leaves, once the first refusal is known
-  pub refused : (k : ℕ) {a : Reply} → answerOf (refusals fs ss room) ≡ suc k → a ≡ refusal (suc k)
-      → (a ≡ reply fs ss room) × (room ≡ roomAfter fs ss room)
-  unfolding reply roomAfter
-  refused k e h = (h ∙ refuses (refusals fs ss room) k _ e, keeps (refusals fs ss room) k _ _ e)
-
-  pub wrote : {a : Reply} {n : ℕ} {out : List ℕ} → answerOf (refusals fs ss room) ≡ 0 → a ≡ success n
-      → n ≡ length (chunkLengths (rates fs ss)) → out ≡ chunkLengths (rates fs ss) ++ drop n room
-      → (a ≡ reply fs ss room) × (out ≡ roomAfter fs ss room)
-  unfolding reply roomAfter
-  wrote e h k o =
-      (h ∙ ap success k ∙ succeeds (refusals fs ss room) _ e, o ∙ rw k (writes (refusals fs ss room) room _ e))
 
 -- ---- the function between crates
 

@@ -10,7 +10,7 @@ use Rattle.feefrac.specs.declared.FeeFrac.{FeeFrac}
 use Rattle.feefrac.specs.Rate.{pick, sum, higher}
 use Rattle.txset.specs.Sets.{positions}
 use Rattle.refusals.specs.declared.Reply.{Reply}
-use Rattle.refusals.specs.Refusals.{Line, line, replyOf, keptUnless, differ, tooMany, short, anyOutside}
+use Rattle.refusals.specs.Refusals.{Line, line, refusal, success, replyOf, keptUnless, differ, tooMany, short, anyOutside}
 use Rattle.chunking.specs.declared.Chunk.{Chunk}
 
 -- "Each member starts as a group"
@@ -52,7 +52,7 @@ refusals fs ss room =
 
 -- "Success reports how many places it wrote from the room's start": here as many as there are chunks
 unfoldable pub reply : List ℤ → List ℕ → List ℕ → Reply
-reply fs ss room = replyOf (refusals fs ss room) (length (chunkLengths (rates fs ss)))
+reply fs ss room = replyOf refusal (refusals fs ss room) (success (length (chunkLengths (rates fs ss))))
 
 -- "the chunk lengths .. the rest stays"
 unfoldable pub roomAfter : List ℤ → List ℕ → List ℕ → List ℕ

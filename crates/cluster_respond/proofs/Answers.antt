@@ -2,18 +2,17 @@
 use Prim.Native.Nat.{ℕ, _≤_}
 use native.Mathlib.Omega.{arith}
 use mathlib.Core.Path.{_≡_, refl, sym, ap, ap₂, _∙_}
-use mathlib.Core.Bool.{Bool, true, false, _&&_}
+use mathlib.Core.Bool.{true, _&&_}
 use mathlib.Core.List.{List, _++_}
-use lib.Dec.{eqb, leb}
+use lib.Dec.{leb}
 use lib.ListN.{length, take, drop, length-append}
 use lib.Seq.{take-at}
 use lib.IntN.{ℤ}
-use borrow.Author.Tests.{le-ltb, le-leb, ne-eqb, eqb-true}
-use Rattle.feefrac.specs.Rate.{pick}
+use borrow.Author.Tests.{le-ltb, le-leb, ne-eqb}
 use Rattle.txset.specs.Sets.{positions}
 use Rattle.refusals.specs.declared.Reply.{Reply}
-use Rattle.refusals.specs.Refusals.{Line, answerOf, replyOf, success, refusal}
-use Rattle.refusals.proofs.Laws.{succeeds, writes}
+use Rattle.refusals.specs.Refusals.{answerOf, success, refusal}
+use Rattle.refusals.proofs.Lines.{Takes, succeeds, writes, answered}
 use Rattle.linearize.specs.Linearize.{refusals, linearOrder, reply, roomAfter}
 use Rattle.cluster_reader.specs.declared.Input.{Input}
 use Rattle.cluster_reader.specs.declared.Input.the-variants.{Members, Refused}
@@ -43,15 +42,6 @@ part-long h = h .count ∙ sym (ap length (h .is))
 pub prints : {t u : List ℕ} {r : ℕ} {new : List ℕ} (old : List ℕ) → t ≡ u → r ≡ length t → new ≡ printed t old → (r ≡ length u) × (new ≡ printed u old)
 prints old e p q = (p ∙ ap length e, q ∙ ap (λ (x : List ℕ). printed x old) e)
 
--- a reply's answer is the number of the first line that holds
-answered : (ls : List Line) (n : ℕ) → replyOf ls n .answer ≡ answerOf ls
-unfolding replyOf
-answered ls n = go (eqb (answerOf ls) 0) refl
-  where
-    go : (b : Bool) → eqb (answerOf ls) 0 ≡ b → pick b (success n) (refusal (answerOf ls)) .answer ≡ answerOf ls
-    go true e = sym (eqb-true (answerOf ls) 0 e)
-    go false e = refl
-
 -- ---- linearize has answered
 
 -- in a room with a place for each member
@@ -62,12 +52,17 @@ module _
     (sizes : length ss ≡ length fs)
     (r : Reply)
     (is : r ≡ reply fs ss ps room) where
+  -- a reply's number is that of the first line that holds
+  number-is : reply fs ss ps room .answer ≡ answerOf (refusals fs ss ps room)
+  unfolding reply
+  number-is = answered (refusals fs ss ps room) refusal (success (length (linearOrder fs ss ps))) (λ x. x .answer) refl (λ k. refl)
+
   -- its answer is that in one as long as the members are many
   same-answer : r .answer ≡ answerOf (refusals fs ss ps ss)
   unfolding reply refusals
   same-answer =
       ap (λ (x : Reply). x .answer) is
-      ∙ answered (refusals fs ss ps room) (length (linearOrder fs ss ps))
+      ∙ number-is
       ∙ rw (le-ltb (length room) (length fs) wide, le-ltb (length ss) (length fs) (omega arith))
 
   pub refused-text : (r .answer ≡ 0 → ⊥) → refusalText (r .answer) ≡ clusterText fs ss ps
@@ -75,17 +70,16 @@ module _
   refused-text n = rw (← same-answer, ne-eqb (r .answer) 0 n)
 
   module _ (e : r .answer ≡ 0) where
-    none : answerOf (refusals fs ss ps room) ≡ 0
-    unfolding reply
-    none = sym (answered (refusals fs ss ps room) (length (linearOrder fs ss ps))) ∙ sym (ap (λ (x : Reply). x .answer) is) ∙ e
+    none : Takes (refusals fs ss ps room)
+    none = record { answer = sym number-is ∙ sym (ap (λ (x : Reply). x .answer) is) ∙ e }
 
     -- the order stands at the room's start
     pub ordered : (new : List ℕ) → new ≡ roomAfter fs ss ps room → Starts (linearOrder fs ss ps) new (r .written)
     unfolding reply roomAfter
     ordered new o =
         starts (linearOrder fs ss ps) (drop (length (linearOrder fs ss ps)) room)
-        (ap (λ (x : Reply). x .written) (is ∙ sym (succeeds (refusals fs ss ps room) (length (linearOrder fs ss ps)) none)))
-        (o ∙ sym (writes (refusals fs ss ps room) room (linearOrder fs ss ps ++ drop (length (linearOrder fs ss ps)) room) none))
+        (ap (λ (x : Reply). x .written) (is ∙ sym (succeeds refusal (success (length (linearOrder fs ss ps))) none refl)))
+        (o ∙ sym (writes room (linearOrder fs ss ps ++ drop (length (linearOrder fs ss ps)) room) none refl))
 
     -- it is printed with the lengths of its chunks
     pub success-text : (order lens out out' : List ℕ) (k : ℕ) → order ≡ linearOrder fs ss ps → lens ≡ orderLengths fs ss order

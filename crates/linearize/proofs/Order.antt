@@ -1,21 +1,18 @@
--- The refusals of linearize in their order, and its four steps as one. Assumes nothing.
-use Prim.Native.Nat.{ℕ, _≤_, _<_}
+-- The four steps of linearize as one. Assumes nothing.
+use Prim.Native.Nat.{ℕ, _≤_}
 use native.Mathlib.Omega.{arith}
 use mathlib.Core.Path.{_≡_, sym, ap, ap₂, _∙_}
-use mathlib.Core.Bool.{Bool, true, false, _&&_}
-use mathlib.Core.List.{List, [], _∷_, _++_, append-nil}
+use mathlib.Core.Bool.{Bool, true, _&&_}
+use mathlib.Core.List.{List, _++_, append-nil}
 use lib.ListN.{length, drop, drop-of-length-le}
 use lib.Dec.{leb}
 use lib.IntN.{ℤ}
-use borrow.Author.Tests.{lt-ltb, le-ltb, le-leb}
+use borrow.Author.Tests.{le-leb}
 use Rattle.feefrac.specs.Rate.{pick}
 use Rattle.txset.specs.Sets.{positions, mem, setAt}
 use Rattle.depgraph.specs.declared.DepGraph.{DepGraph}
 use Rattle.depgraph.specs.Closed.{Closed}
-use Rattle.depgraph.specs.Graph.{isCyclic}
 use Rattle.depgraph.proofs.Theorems.{ancestor-refl}
-use Rattle.refusals.specs.Refusals.{answerOf, differ₃, tooMany, short, firstOutside}
-use Rattle.refusals.proofs.Laws.{given, passed-over, none-left, outside-some, outside-none}
 use Rattle.passes.specs.Pass.{backPass, forwardPass}
 use Rattle.passes.proofs.Theorems.{back-same, forward-same}
 use Rattle.post_linearize.specs.PostLinearize.{postLinearize}
@@ -25,49 +22,8 @@ use Rattle.candidates.specs.Candidates.{ancestorOrder}
 use Rattle.candidates.proofs.Theorems.{as-many}
 use Rattle.output_order.specs.Output
 use Rattle.output_order.specs.Output.{outputOrder}
-use Rattle.linearize.specs.Linearize.{refusals, linearOrder}
+use Rattle.linearize.specs.Linearize.{linearOrder}
 use Rattle.linearize.specs.Steps.{stepsOf, Ready}
-
-module _ (fs : List ℤ) (ss ps room : List ℕ) where
-  pub first-1 : differ₃ (length fs) (length ss) (length ps) ≡ true → answerOf (refusals fs ss ps room) ≡ 1
-  unfolding refusals
-  first-1 h = given 1 _ _ h
-
-  module _ (e : differ₃ (length fs) (length ss) (length ps) ≡ false) where
-    pub first-2 : positions < length fs → answerOf (refusals fs ss ps room) ≡ 2
-    unfolding refusals
-    first-2 h = passed-over 1 _ _ e (given 2 _ _ (lt-ltb positions (length fs) h))
-
-    module _ (m : length fs ≤ positions) where
-      past-2 : tooMany (length fs) ≡ false
-      past-2 = le-ltb positions (length fs) m
-
-      pub first-11 : length room < length fs → answerOf (refusals fs ss ps room) ≡ 11
-      unfolding refusals
-      first-11 h = passed-over 1 _ _ e (passed-over 2 _ _ past-2 (given 11 _ _ (lt-ltb (length room) (length fs) h)))
-
-      module _ (l : length fs ≤ length room) where
-        past-11 : short (length room) (length fs) ≡ false
-        past-11 = le-ltb (length room) (length fs) l
-
-        pub first-3 : firstOutside fs < length fs → answerOf (refusals fs ss ps room) ≡ 3
-        unfolding refusals
-        first-3 h = passed-over 1 _ _ e (passed-over 2 _ _ past-2 (passed-over 11 _ _ past-11 (given 3 _ _ (outside-some fs h))))
-
-        module _ (r : length fs ≤ firstOutside fs) where
-          pub first-4 : isCyclic ps ≡ true → answerOf (refusals fs ss ps room) ≡ 4
-          unfolding refusals
-          first-4 h =
-              passed-over 1 _ _ e
-              (passed-over 2 _ _ past-2 (passed-over 11 _ _ past-11 (passed-over 3 _ _ (outside-none fs r) (given 4 _ _ h))))
-
-          pub first-none : isCyclic ps ≡ false → answerOf (refusals fs ss ps room) ≡ 0
-          unfolding refusals
-          first-none h =
-              passed-over 1 _ _ e
-              (passed-over 2 _ _ past-2 (passed-over 11 _ _ past-11 (passed-over 3 _ _ (outside-none fs r) (passed-over 4 _ _ h none-left))))
-
--- ---- the four steps
 
 nothing-behind : {n : ℕ} (xs ys : List ℕ) → length ys ≡ n → xs ++ drop n ys ≡ xs
 nothing-behind {n} xs ys e =

@@ -5,7 +5,7 @@ use lib.ListN.{length, drop}
 use lib.IntN.{ℤ}
 use Rattle.depgraph.specs.Graph.{isAncestor, isCyclic}
 use Rattle.refusals.specs.declared.Reply.{Reply}
-use Rattle.refusals.specs.Refusals.{Line, line, replyOf, keptUnless, differ₃, tooMany, short, anyOutside}
+use Rattle.refusals.specs.Refusals.{Line, line, refusal, success, replyOf, keptUnless, differ₃, tooMany, short, anyOutside}
 use Rattle.candidates.specs.Candidates.{ancestorOrder}
 use Rattle.output_order.specs.Output.{outputOrder}
 use Rattle.post_linearize.specs.PostLinearize.{postLinearize}
@@ -21,7 +21,7 @@ refusals fs ss ps room =
     ∷ line 3 (anyOutside fs) ∷ line 4 (isCyclic ps) ∷ []
 
 unfoldable pub reply : List ℤ → List ℕ → List ℕ → List ℕ → Reply
-reply fs ss ps room = replyOf (refusals fs ss ps room) (length (linearOrder fs ss ps))
+reply fs ss ps room = replyOf refusal (refusals fs ss ps room) (success (length (linearOrder fs ss ps)))
 
 -- the order at the room's start; "the rest stays"
 unfoldable pub roomAfter : List ℤ → List ℕ → List ℕ → List ℕ → List ℕ

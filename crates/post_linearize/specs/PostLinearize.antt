@@ -8,7 +8,7 @@ use lib.IntN.{ℤ}
 use Rattle.depgraph.specs.Graph.{isAncestor, isDescendant, isCyclic}
 use Rattle.passes.specs.Pass.{backPass, forwardPass}
 use Rattle.refusals.specs.declared.Reply.{Reply}
-use Rattle.refusals.specs.Refusals.{Line, line, replyOf, keptUnless, differ₃, tooMany, anyOutside, isOrder}
+use Rattle.refusals.specs.Refusals.{Line, line, refusal, success, replyOf, keptUnless, differ₃, tooMany, anyOutside, isOrder}
 
 -- "Two passes. The first runs from the back with .. descendants as dependencies, the second forward with ancestors."
 unfoldable pub postLinearize : List ℤ → List ℕ → List ℕ → List ℕ → List ℕ
@@ -22,7 +22,7 @@ refusals fs ss ps order =
 
 -- "Success reports how many places it wrote": the n positions
 unfoldable pub reply : List ℤ → List ℕ → List ℕ → List ℕ → Reply
-reply fs ss ps order = replyOf (refusals fs ss ps order) (length fs)
+reply fs ss ps order = replyOf refusal (refusals fs ss ps order) (success (length fs))
 
 unfoldable pub orderAfter : List ℤ → List ℕ → List ℕ → List ℕ → List ℕ
 orderAfter fs ss ps order = keptUnless (refusals fs ss ps order) order (postLinearize fs ss ps order)

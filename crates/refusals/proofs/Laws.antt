@@ -1,21 +1,20 @@
--- Laws of the range check and of a list of conditions in their order. Assumes nothing.
+-- Laws of the range check. Assumes nothing.
 use Prim.Native.Nat.{ℕ, suc, _+_, _≤_, _<_}
 use native.Mathlib.Numerals.{add-one}
 use native.Mathlib.Omega.{arith}
-use mathlib.Core.Path.{_≡_, refl, sym, ap, _∙_}
-use mathlib.Core.Bool.{Bool, true, false, not, _&&_}
-use mathlib.Core.List.{List, [], _∷_}
+use mathlib.Core.Path.{_≡_, refl}
+use mathlib.Core.Bool.{Bool, true, false, not}
+use mathlib.Core.List.{List}
 use lib.ListN.{length, drop, getD, drop-of-length-le}
 use lib.Seq.{drop-cons}
-use lib.Dec.{ltb, leb, eqb}
+use lib.Dec.{ltb, leb}
 use lib.IntN.{ℤ, pos, negsuc}
 use lib.Signed.{leZ, ltZ}
 use mir.Syntax.{w64}
 use mir.Val.{SFits, toZ, ofZ}
 use mir.ValLaws.{toZ-ofZ}
-use borrow.Author.Tests.{ltb-true, ltb-false, lt-ltb, le-ltb, lt-leb, le-leb, eq-eqb, ne-eqb}
-use Rattle.refusals.specs.declared.Reply.{Reply}
-use Rattle.refusals.specs.Refusals.{Line, line, answerOf, refusal, success, replyOf, keptUnless, inRange, firstOutside, anyOutside}
+use borrow.Author.Tests.{ltb-true, ltb-false, lt-ltb, le-ltb, lt-leb, le-leb}
+use Rattle.refusals.specs.Refusals.{inRange, firstOutside, anyOutside}
 
 -- ---- the range of a fee
 
@@ -81,35 +80,3 @@ outside-some fs h = lt-ltb (firstOutside fs) (length fs) h
 pub outside-none : (fs : List ℤ) → length fs ≤ firstOutside fs → anyOutside fs ≡ false
 unfolding anyOutside
 outside-none fs h = le-ltb (firstOutside fs) (length fs) h
-
--- ---- the first line that holds
-
-pub given : (k : ℕ) (b : Bool) (ls : List Line) → b ≡ true → answerOf (line k b ∷ ls) ≡ k
-unfolding answerOf
-given k b ls e = rw e
-
-pub passed-over : (k : ℕ) (b : Bool) (ls : List Line) {a : ℕ} → b ≡ false → answerOf ls ≡ a → answerOf (line k b ∷ ls) ≡ a
-unfolding answerOf
-passed-over k b ls e f = rw (e, f)
-
-pub none-left : answerOf [] ≡ 0
-unfolding answerOf
-none-left = refl
-
--- what a call answers and leaves, once its answer is known
-module _ (ls : List Line) where
-  pub refuses : (k n : ℕ) → answerOf ls ≡ suc k → refusal (suc k) ≡ replyOf ls n
-  unfolding replyOf
-  refuses k n e = rw (e, ne-eqb (suc k) 0 (λ z. omega arith))
-
-  pub keeps : {A : Type 0} (k : ℕ) (old new : A) → answerOf ls ≡ suc k → old ≡ keptUnless ls old new
-  unfolding keptUnless
-  keeps k old new e = rw (e, ne-eqb (suc k) 0 (λ z. omega arith))
-
-  pub succeeds : (n : ℕ) → answerOf ls ≡ 0 → success n ≡ replyOf ls n
-  unfolding replyOf
-  succeeds n e = rw e
-
-  pub writes : {A : Type 0} (old new : A) → answerOf ls ≡ 0 → new ≡ keptUnless ls old new
-  unfolding keptUnless
-  writes old new e = rw e

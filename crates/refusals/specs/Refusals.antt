@@ -25,21 +25,21 @@ unfoldable pub answerOf : List Line → ℕ
 answerOf [] = 0
 answerOf (l ∷ ls) = pick (l .holds) (l .number) (answerOf ls)
 
--- "A refusal returns its number and zero for all else"
+-- a call's reply, of whatever it consists: `refused` of the first number that is given, else `done`
+unfoldable pub replyOf : {R : Type 0} → (ℕ → R) → List Line → R → R
+replyOf refused ls done = pick (eqb (answerOf ls) 0) done (refused (answerOf ls))
+
+-- what lent memory holds after a call: `new` on success; after a refusal "all lent memory stays"
+unfoldable pub keptUnless : {A : Type 0} → List Line → A → A → A
+keptUnless ls old new = pick (eqb (answerOf ls) 0) new old
+
+-- of the cluster calls: "A refusal returns its number and zero for all else"
 abbrev pub refusal : ℕ → Reply
 refusal k = record { answer = k; written = 0 }
 
 -- "Success reports how many places it wrote from the room's start"
 abbrev pub success : ℕ → Reply
 success n = record { answer = 0; written = n }
-
--- a call's reply: the first refusal, else success with n places
-unfoldable pub replyOf : List Line → ℕ → Reply
-replyOf ls n = pick (eqb (answerOf ls) 0) (success n) (refusal (answerOf ls))
-
--- what lent memory holds after a call: `new` on success; after a refusal "all lent memory stays"
-unfoldable pub keptUnless : {A : Type 0} → List Line → A → A → A
-keptUnless ls old new = pick (eqb (answerOf ls) 0) new old
 
 -- 1: "fees, sizes and parents differ in length": of two lengths, and of three
 abbrev pub differ : ℕ → ℕ → Bool

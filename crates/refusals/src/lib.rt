@@ -7,7 +7,7 @@ ghost use Rattle.refusals.specs.Refusals.{refusal, success, inRange, fir
 use txset::POSITIONS;
 use txset::TxSet;
 
-// The refusals of document 01 that the cluster calls give.
+// The refusals of document 01, by their numbers.
 pub const LENGTHS_DIFFER: u64 = 1;
 
 pub const TOO_MANY_MEMBERS: u64 = 2;
@@ -18,7 +18,21 @@ pub const CYCLE: u64 = 4;
 
 pub const NOT_AN_ORDER: u64 = 5;
 
+pub const TXID_PRESENT: u64 = 6;
+
+pub const NO_SLOT_FREE: u64 = 7;
+
+pub const CLUSTER_TOO_MANY: u64 = 8;
+
+pub const CLUSTER_TOO_LARGE: u64 = 9;
+
+pub const TXID_ABSENT: u64 = 10;
+
 pub const ROOM_TOO_SHORT: u64 = 11;
+
+pub const TABLE_ILL_FORMED: u64 = 12;
+
+pub const INPUT_ILL_FORMED: u64 = 13;
 
 // 0 and the number of places written from the room's start, or the refusal's number and 0.
 #[repr(C)]

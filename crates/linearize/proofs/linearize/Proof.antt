@@ -1,60 +1,73 @@
 use Prim.Native.Nat.{ℕ, _≤_}
 use native.Mathlib.Omega.{arith}
-use mathlib.Core.Path.{_≡_, sym, ap, _∙_}
-use mathlib.Core.Bool.{true, false}
+use mathlib.Core.Path.{_≡_, refl, sym, ap, _∙_}
 use mathlib.Core.List.{List}
 use lib.ListN.{length, take, replicate}
 use lib.Seq.{length-take-le}
 use borrow.Author.Needs.{needs}
+use borrow.Author.Tests.{lt-ltb, le-ltb}
 use Rattle.txset.specs.Sets.{positions}
 use Rattle.depgraph.specs.Closed.{Closed}
-use Rattle.refusals.specs.Refusals.{answerOf, success, differ₃, firstOutside}
-use Rattle.post_linearize.proofs.Checks.{sizes-differ, parents-differ, all-alike, whole, refused, wrote}
+use Rattle.refusals.specs.Refusals.{Line, success}
+use Rattle.refusals.proofs.Laws.{outside-some, outside-none}
+use Rattle.refusals.proofs.Lines.{Past, Takes, none-past, past, stop, all-past, refuses-keeps, succeeds-writes}
+use Rattle.post_linearize.proofs.Checks.{sizes-differ, parents-differ, all-alike, whole}
 use Rattle.linearize.specs.Linearize.{refusals, reply, roomAfter}
-use Rattle.linearize.proofs.Order.{first-1, first-2, first-11, first-3, first-4, first-none, ready, linear-done}
+use Rattle.linearize.proofs.Order.{ready, linear-done}
 use Rattle.linearize.proofs.Few.{few-acyclic, none-order, alone-order, none-room, alone-room}
 use Rattle.linearize.proofs.linearize.Statement.{statement}
 use Rattle.linearize.proofs.linearize.Tie as tie
 
+abbrev lines : tie.After-slice-known → List Line
+lines k = let a = k .before .before .before .args in refusals (a .fees .now) (a .sizes .now) (a .parents .now) (a .room .now)
+
+-- the tests that were passed
+past-0 : (k : tie.After-slice-known) → Past (lines k) 0
+unfolding refusals
+past-0 k = none-past refl
+
+past-1 : (e : tie.Else2) → Past (lines (e .before .before)) 1
+unfolding refusals
+past-1 e = past (past-0 (e .before .before)) (all-alike _ _ _ (e .before .if1 .left) (e .if2 .left))
+
+past-2 : (e : tie.Else3) → Past (lines (e .before .before .before)) 2
+unfolding refusals
+past-2 e = past (past-1 (e .before)) (le-ltb positions _ (e .if3 .left))
+
+past-3 : (e : tie.Else4) → Past (lines (e .before .before .before .before)) 3
+unfolding refusals
+past-3 e = past (past-2 (e .before)) (le-ltb _ _ (e .if4 .left))
+
+past-4 : (e : tie.Else5) → Past (lines (e .before .before .before .before .before .before)) 4
+unfolding refusals
+past-4 e = past (past-3 (e .before .before)) (outside-none _ (omega (arith, e .before .first-outside .ensures, e .if5 .left)))
+
 returns : tie.Need-returns
-unfolding reply roomAfter
-returns c = refused _ _ _ _ 0 (first-1 _ _ _ _ (sizes-differ _ _ _ (c .before .if1 .taken))) (c .refused .ensures)
+unfolding reply roomAfter refusals
+returns c = refuses-keeps _ _ _ _ (stop (past-0 (c .before .before)) (sizes-differ _ _ _ (c .before .if1 .taken))) (c .refused .ensures)
 
 returns-2 : tie.Need-returns-2
-unfolding reply roomAfter
-returns-2 c = refused _ _ _ _ 0 (first-1 _ _ _ _ (parents-differ _ _ _ (c .before .if2 .taken))) (c .refused2 .ensures)
+unfolding reply roomAfter refusals
+returns-2 c = refuses-keeps _ _ _ _ (stop (past-0 (c .before .before .before)) (parents-differ _ _ _ (c .before .if2 .taken))) (c .refused2 .ensures)
 
 returns-3 : tie.Need-returns-3
-unfolding reply roomAfter
-returns-3 c =
-    let t = c .before .before in
-    refused _ _ _ _ 1 (first-2 _ _ _ _ (all-alike _ _ _ (t .before .if1 .left) (t .if2 .left)) (c .before .if3 .taken)) (c .refused3 .ensures)
+unfolding reply roomAfter refusals
+returns-3 c = refuses-keeps _ _ _ _ (stop (past-1 (c .before .before)) (lt-ltb positions _ (c .before .if3 .taken))) (c .refused3 .ensures)
 
 returns-4 : tie.Need-returns-4
-unfolding reply roomAfter
-returns-4 c =
-    let t = c .before .before in
-    refused _ _ _ _ 10
-    (first-11 _ _ _ _ (all-alike _ _ _ (t .before .before .if1 .left) (t .before .if2 .left)) (t .if3 .left) (c .before .if4 .taken))
-    (c .refused4 .ensures)
+unfolding reply roomAfter refusals
+returns-4 c = refuses-keeps _ _ _ _ (stop (past-2 (c .before .before)) (lt-ltb _ _ (c .before .if4 .taken))) (c .refused4 .ensures)
 
 returns-5 : tie.Need-returns-5
-unfolding reply roomAfter
+unfolding reply roomAfter refusals
 returns-5 c =
-    let t = c .before .before .before in
-    refused _ _ _ _ 2
-    (first-3 _ _ _ _ (all-alike _ _ _ (t .before .before .before .if1 .left) (t .before .before .if2 .left)) (t .before .if3 .left) (t .if4 .left)
-    (omega (arith, c .before .before .first-outside .ensures)))
-    (c .refused5 .ensures)
+    let o = c .before .before in
+    refuses-keeps _ _ _ _ (stop (past-3 (o .before)) (outside-some _ (omega (arith, o .first-outside .ensures)))) (c .refused5 .ensures)
 
 -- once the fees are seen to be in their range: what the tests before leave
 module _ (e : tie.Else5) where
   start : tie.Start
   start = e .before .before .before .before .before .before .before .before .before
-
-  alike : differ₃ (length (start .args .fees .now)) (length (start .args .sizes .now)) (length (start .args .parents .now)) ≡ false
-  unfolding start
-  alike = let t = e .before .before in all-alike _ _ _ (t .before .before .before .if1 .left) (t .before .before .if2 .left)
 
   few : length (start .args .fees .now) ≤ positions
   unfolding start
@@ -64,24 +77,21 @@ module _ (e : tie.Else5) where
   unfolding start
   wide = e .before .before .if4 .left
 
-  ranged : length (start .args .fees .now) ≤ firstOutside (start .args .fees .now)
-  unfolding start
-  ranged = omega (arith, e .before .first-outside .ensures, e .if5 .left)
-
   as-long : length (start .args .parents .now) ≡ length (start .args .fees .now)
   unfolding start
   as-long = e .before .before .before .before .if2 .left
 
   -- no cycle among one member or none: nothing is refused
-  answers : length (start .args .fees .now) ≤ 1 → answerOf (refusals (start .args .fees .now) (start .args .sizes .now) (start .args .parents .now) (start .args .room .now)) ≡ 0
-  answers h = first-none _ _ _ _ alike few wide ranged (few-acyclic _ (omega (arith, as-long)))
+  takes : length (start .args .fees .now) ≤ 1 → Takes (lines (e .before .before .before .before .before .before))
+  unfolding start refusals
+  takes h = all-past (past (past-4 e) (few-acyclic _ (omega (arith, as-long)))) refl
 
 returns-6 : tie.Need-returns-6
 unfolding reply roomAfter start
 returns-6 c =
     let e = c .before .before in
     let o = none-order _ _ _ (as-long e) (c .before .if6 .taken) in
-    wrote _ _ _ _ (answers e (omega (arith, c .before .if6 .taken))) (c .wrote .ensures ∙ ap (λ (l : List ℕ). success (length l)) (sym o)) (none-room _ _ o)
+    succeeds-writes _ _ _ _ (takes e (omega (arith, c .before .if6 .taken))) (c .wrote .ensures ∙ ap (λ (l : List ℕ). success (length l)) (sym o)) (none-room _ _ o)
 
 returns-7 : tie.Need-returns-7
 unfolding reply roomAfter start
@@ -89,7 +99,7 @@ returns-7 c =
     let t = c .before in
     let e = t .before .before in
     let o = alone-order _ _ _ (as-long e) (t .if7 .taken) in
-    wrote _ _ _ _ (answers e (omega (arith, t .if7 .taken))) (c .wrote2 .ensures ∙ ap (λ (l : List ℕ). success (length l)) (sym o))
+    succeeds-writes _ _ _ _ (takes e (omega (arith, t .if7 .taken))) (c .wrote2 .ensures ∙ ap (λ (l : List ℕ). success (length l)) (sym o))
     (alone-room _ _ o (omega (arith, wide e, t .if7 .taken)))
 
 -- once the graph is made
@@ -98,11 +108,10 @@ unfolding start
 graph d = whole _ _ (let e = d .before .before .before in omega (arith, as-long e, few e)) (d .new .ensures)
 
 returns-8 : tie.Need-returns-8
-unfolding reply roomAfter start
+unfolding reply roomAfter refusals start
 returns-8 c =
     let d = c .before .before in
-    let e = d .before .before .before in
-    refused _ _ _ _ 3 (first-4 _ _ _ _ (alike e) (few e) (wide e) (ranged e) (sym (graph d .cyclic) ∙ c .before .if8 .taken)) (c .refused6 .ensures)
+    refuses-keeps _ _ _ _ (stop (past-4 (d .before .before .before)) (sym (graph d .cyclic) ∙ c .before .if8 .taken)) (c .refused6 .ensures)
 
 abbrev zeros : List ℕ
 zeros = replicate 64 0
@@ -123,14 +132,15 @@ order-members-requires c κs =
     ready (graph d) (as-long e) (few e) (own-length e) (wide e)
 
 returns-9 : tie.Need-returns-9
-unfolding reply roomAfter start
+unfolding reply roomAfter refusals start
 returns-9 c =
     let m = c .before .before .before .before in
     let x = m .before .before .before .before .before .before .before .before in
     let d = x .before in
-    let e = d .before .before .before in
     let l = linear-done _ _ _ _ _ (graph d) (m .order-members .ensures .0) (m .order-members .ensures .1) in
-    wrote _ _ _ _ (first-none _ _ _ _ (alike e) (few e) (wide e) (ranged e) (sym (graph d .cyclic) ∙ x .if8 .left)) (c .wrote3 .ensures ∙ ap success (l .0)) (l .1)
+    succeeds-writes _ _ _ _ (all-past (past (past-4 (d .before .before .before)) (sym (graph d .cyclic) ∙ x .if8 .left)) refl)
+    (c .wrote3 .ensures ∙ ap success (l .0))
+    (l .1)
 
 pub linearize-spec : {M : Type 1} → statement M
 linearize-spec =
