@@ -14,6 +14,7 @@ mod rng;
 mod run;
 mod texts;
 mod worst;
+mod wrong;
 
 use std::path::Path;
 use std::process::ExitCode;
@@ -22,6 +23,7 @@ const USAGE: &str = "\
 compare run [--seed S] [--clusters N]   compare the library with the original on good and bad inputs
 compare bench                           print a table of times
 compare worst [--seconds S]             search for the clusters with the smallest gain
+compare wrong [--tries N]               search for the smallest cluster that tells each wrong program from the right one
 compare replay DIR                      write cases and answers, as stdin and stdout, to a folder
 compare texts DIR                       write the table of crates/run_cluster_texts to a folder";
 
@@ -53,6 +55,11 @@ fn perform(words: &[&str]) -> Result<(), String> {
         ["worst", options @ ..] => {
             let [seconds] = numbers(options, [("--seconds", 60)])?;
             worst::worst(seconds);
+            Ok(())
+        }
+        ["wrong", options @ ..] => {
+            let [tries] = numbers(options, [("--tries", 400_000)])?;
+            wrong::search(tries);
             Ok(())
         }
         ["replay", folder] => replay::write(Path::new(folder)),

@@ -1,6 +1,8 @@
-//! A third reading of the rules, plain and slow, which counts the feerate compares of a call.
+//! A third reading of the rules, plain and slow, which counts the feerate compares of a call and can also err in
+//! the ways that document 01 names.
 
 use crate::cluster::Cluster;
+use crate::wrong::Wrong;
 use std::cmp::Ordering;
 
 /// A fee and a size, each as a sum that stops at the ends of its type.
@@ -26,6 +28,11 @@ impl Rate {
             size: self.size.saturating_sub(other.size),
         }
     }
+
+    /// The fee over the size, rounded down; the fee alone over nothing.
+    fn divided(self) -> i128 {
+        i128::from(self.fee).div_euclid(i128::from(self.size.max(1)))
+    }
 }
 
 /// What both passes of the post step keep of a group.
@@ -40,6 +47,7 @@ pub struct Model {
     rates: Vec<Rate>,
     ancestors: Vec<u64>,
     compares: u64,
+    wrong: Option<Wrong>,
 }
 
 /// The order, its chunk lengths, and how many compares both took.
@@ -50,12 +58,20 @@ pub struct Solved {
 }
 
 pub fn solve(cluster: &Cluster) -> Solved {
-    let mut model = Model::new(cluster);
+    solve_wrongly(cluster, None)
+}
+
+/// The same with an error, where one is given.
+pub fn solve_wrongly(cluster: &Cluster, wrong: Option<Wrong>) -> Solved {
+    let mut model = Model::new(cluster, wrong);
     let taken = model.take_ancestor_sets();
     let back = model.pass(taken.into_iter().rev().collect(), true);
     let improved = model.pass(back.into_iter().rev().collect(), false);
-    let order = model.put_out(&improved);
-    let chunks = model.chunk_lengths(&order);
+    let mut order = model.put_out(&improved);
+    if model.errs(Wrong::ByPosition) {
+        order.sort_unstable();
+    }
+    let chunks = model.chunk_lengths(&order, Wrong::JoinsEqualChunks);
     Solved {
         order,
         chunks,
@@ -72,7 +88,7 @@ fn set_of(members: &[usize]) -> u64 {
 }
 
 impl Model {
-    fn new(cluster: &Cluster) -> Model {
+    fn new(cluster: &Cluster, wrong: Option<Wrong>) -> Model {
         let n = cluster.len();
         let rate = |i: usize| Rate {
             fee: cluster.fees[i],
@@ -90,17 +106,31 @@ impl Model {
             rates: (0..n).map(rate).collect(),
             ancestors,
             compares: 0,
+            wrong,
         }
+    }
+
+    fn errs(&self, wrong: Wrong) -> bool {
+        self.wrong == Some(wrong)
     }
 
     fn by_rate(&mut self, a: Rate, b: Rate) -> Ordering {
         self.compares += 1;
+        if self.errs(Wrong::Divides) {
+            return a.divided().cmp(&b.divided());
+        }
+        if self.errs(Wrong::OneWord) {
+            let product = |fee: i64, size: u64| fee.wrapping_mul(size as i64);
+            return product(a.fee, b.size).cmp(&product(b.fee, a.size));
+        }
         let product = |fee: i64, size: u64| i128::from(fee) * i128::from(size);
         product(a.fee, b.size).cmp(&product(b.fee, a.size))
     }
 
-    fn is_higher(&mut self, a: Rate, b: Rate) -> bool {
-        self.by_rate(a, b).is_gt()
+    /// Whether a is strictly higher; with the error that is named, also where both are equal.
+    fn surpasses(&mut self, a: Rate, b: Rate, where_equal: Wrong) -> bool {
+        let order = self.by_rate(a, b);
+        order.is_gt() || order.is_eq() && self.errs(where_equal)
     }
 
     fn rank(&mut self, a: Rate, b: Rate) -> Ordering {
@@ -129,12 +159,20 @@ impl Model {
         let mut sums: Vec<Rate> = self.ancestors.iter().map(|&set| self.sum(set)).collect();
         let mut left: Vec<usize> = (0..n).collect();
         let mut order = Vec::new();
-        while let Some(best) = self.highest(&left, &sums) {
+        while let Some(mut best) = self.highest(&left, &sums) {
+            if self.errs(Wrong::FirstSetOnly) && !order.is_empty() {
+                best = left[0];
+            }
             let chosen = self.ancestors[best];
             let (mut out, kept): (Vec<_>, Vec<_>) = left.iter().partition(|&&i| has(chosen, i));
             left = kept;
+            let given: &[usize] = if self.errs(Wrong::KeepsWhatIsOut) {
+                &[]
+            } else {
+                &out
+            };
             for &i in &left {
-                for &gone in out.iter().filter(|&&gone| has(self.ancestors[i], gone)) {
+                for &gone in given.iter().filter(|&&gone| has(self.ancestors[i], gone)) {
                     sums[i] = sums[i].minus(self.rates[gone]);
                 }
             }
@@ -151,7 +189,9 @@ impl Model {
         for i in members {
             let mut group = self.alone(i, back);
             let mut place = groups.len();
-            while place > 0 && self.is_higher(group.rate, groups[place - 1].rate) {
+            while place > 0
+                && self.surpasses(group.rate, groups[place - 1].rate, Wrong::MergesEqualGroups)
+            {
                 place -= 1;
                 if group.needs & set_of(&groups[place].members) != 0 {
                     let before = groups.remove(place);
@@ -185,13 +225,13 @@ impl Model {
         }
     }
 
-    fn chunk_lengths(&mut self, order: &[usize]) -> Vec<usize> {
+    fn chunk_lengths(&mut self, order: &[usize], where_equal: Wrong) -> Vec<usize> {
         let mut chunks: Vec<(Rate, usize)> = Vec::new();
         for &i in order {
             let (mut rate, mut length) = (self.rates[i], 1);
             while chunks
                 .last()
-                .is_some_and(|&(before, _)| self.is_higher(rate, before))
+                .is_some_and(|&(before, _)| self.surpasses(rate, before, where_equal))
             {
                 let (before, members) = chunks.pop().expect("there is a last one");
                 rate = rate.plus(before);
@@ -206,7 +246,7 @@ impl Model {
     fn put_out(&mut self, order: &[usize]) -> Vec<usize> {
         let mut rest = order;
         let mut chunks = Vec::new();
-        for length in self.chunk_lengths(order) {
+        for length in self.chunk_lengths(order, Wrong::CutsEqualTogether) {
             chunks.push(set_of(&rest[..length]));
             rest = &rest[length..];
         }

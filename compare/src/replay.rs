@@ -8,6 +8,7 @@ use crate::cluster::{commas, Call, Cluster, Original};
 use crate::generate::{cluster, name_in_vain, Numbers, Shape};
 use crate::original::chunk_lengths;
 use crate::rng::Rng;
+use crate::wrong::Wrong;
 use std::path::Path;
 
 const SEED: u64 = 300;
@@ -34,7 +35,8 @@ pub fn write(folder: &Path) -> Result<(), String> {
         .map_err(|error| format!("{}: {error}", folder.display()))
 }
 
-/// Clusters, each with the kind of a call, and an order for the one that takes it.
+/// Clusters, each with the kind of a call, and an order for the one that takes it: random ones, and those that tell
+/// wrong programs.
 fn cases() -> Vec<(Cluster, usize, Vec<usize>)> {
     let mut rng = Rng::new(SEED);
     let mut cases = Vec::new();
@@ -56,7 +58,14 @@ fn cases() -> Vec<(Cluster, usize, Vec<usize>)> {
         }
         (cluster, kind, rng.permutation(n))
     };
-    cases.into_iter().map(fill).collect()
+    let mut cases: Vec<_> = cases.into_iter().map(fill).collect();
+    for kind in 0..Call::NAMES.len() {
+        for cluster in Wrong::ALL.map(Wrong::telling) {
+            let order = (0..cluster.len()).collect();
+            cases.push((cluster, kind, order));
+        }
+    }
+    cases
 }
 
 fn answer(cluster: &Cluster, kind: usize, order: &[usize]) -> String {

@@ -56,8 +56,19 @@ cases =
     ∷ cuts (pos 1 ∷ pos 0 ∷ pos 2 ∷ []) (1 ∷ 1 ∷ 1 ∷ []) (1 ∷ 2 ∷ [])
     ∷ cuts (pos 0 ∷ pos 0 ∷ []) (0 ∷ 0 ∷ []) (1 ∷ 1 ∷ [])
     ∷ cuts (pos 1 ∷ pos 5 ∷ []) (1 ∷ 0 ∷ []) (2 ∷ [])
-    -- not of the document: "choosing the first ancestor set well and then running by position" would answer 0,1,2
-    ∷ orders (pos 30 ∷ pos 10 ∷ pos 20 ∷ []) (100 ∷ 100 ∷ 100 ∷ []) (0 ∷ 0 ∷ 0 ∷ []) (0 ∷ 2 ∷ 1 ∷ []) (1 ∷ 1 ∷ 1 ∷ [])
+    -- not of the document, one for each wrong program that it names, which answers otherwise although the later steps repair what they
+    -- can. "choosing the first ancestor set well and then running by position" would give 0,2,4,1,3
+    ∷ orders (pos 6 ∷ pos 4 ∷ pos 1 ∷ pos 8 ∷ pos 2 ∷ []) (2 ∷ 1 ∷ 1 ∷ 2 ∷ 2 ∷ []) (0 ∷ 21 ∷ 0 ∷ 16 ∷ 0 ∷ []) (0 ∷ 4 ∷ 3 ∷ 2 ∷ 1 ∷ []) (1 ∷ 2 ∷ 2 ∷ [])
+    -- "Using ancestor sums without giving back the members already out": 3,0,4,1,2
+    ∷ orders (pos 1 ∷ pos 4 ∷ pos 3 ∷ pos 5 ∷ pos 0 ∷ []) (3 ∷ 2 ∷ 2 ∷ 1 ∷ 1 ∷ []) (8 ∷ 25 ∷ 16 ∷ 0 ∷ 0 ∷ []) (3 ∷ 4 ∷ 2 ∷ 0 ∷ 1 ∷ []) (1 ∷ 2 ∷ 2 ∷ [])
+    -- "Joining chunks at equal feerate", where the order is cut: 2,0,1
+    ∷ orders (pos 0 ∷ pos 1 ∷ pos 1 ∷ []) (1 ∷ 1 ∷ 2 ∷ []) (0 ∷ 1 ∷ 0 ∷ []) (0 ∷ 1 ∷ 2 ∷ []) (2 ∷ 1 ∷ [])
+    -- the same, where a post pass goes on at equal feerates: 2,3,1,0,5,4
+    ∷ orders (pos 3 ∷ pos 8 ∷ pos 0 ∷ pos 9 ∷ pos 9 ∷ pos 7 ∷ []) (3 ∷ 2 ∷ 2 ∷ 2 ∷ 1 ∷ 3 ∷ []) (0 ∷ 4 ∷ 0 ∷ 4 ∷ 44 ∷ 1 ∷ []) (0 ∷ 5 ∷ 2 ∷ 3 ∷ 4 ∷ 1 ∷ []) (6 ∷ [])
+    -- "Comparing fee / size after division": 0,1
+    ∷ orders (pos 0 ∷ pos 1 ∷ []) (1 ∷ 2 ∷ []) (0 ∷ 0 ∷ []) (1 ∷ 0 ∷ []) (1 ∷ 1 ∷ [])
+    -- "or products in 64 bits": 0,1, since 2^50 × 2^13 is taken for a number below 0
+    ∷ orders (pos 1 ∷ pos 1125899906842624 ∷ []) (8192 ∷ 1 ∷ []) (0 ∷ 0 ∷ []) (1 ∷ 0 ∷ []) (1 ∷ 1 ∷ [])
     -- "0 and 1 parents of each other: refusal 4"
     ∷ refuses (pos 1 ∷ pos 2 ∷ []) (1 ∷ 1 ∷ []) (2 ∷ 1 ∷ []) 4
     ∷ []
