@@ -1,10 +1,9 @@
 -- A walk upwards over the members of a set that changes by f what is read at each of them. Assumes nothing.
 use mathlib.Core.Path.{_≡_, refl, sym, ap, ap₂, _∙_}
-use mathlib.Core.Bool.{Bool, true, false, not, _&&_, and-true, and-false}
+use mathlib.Core.Bool.{Bool, true, false, cond, not, _&&_, and-true, and-false}
 use Prim.Native.Nat.{ℕ}
 use lib.Dec.{eqb}
 use borrow.Author.Tests.{eqb-true, eqb-false, eq-eqb, ne-eqb}
-use Rattle.feefrac.specs.Rate.{pick}
 use Rattle.txset.specs.declared.TxSet.{TxSet}
 use Rattle.txset.specs.Sets.{mem, isEmpty, lowestOf}
 use Rattle.txset.proofs.Sets.{empty-mem}
@@ -12,7 +11,7 @@ use Rattle.txset.proofs.Walk.{lowest-mem}
 
 -- what is read at i once the members of s are changed
 abbrev pub changed : {A : Type 0} → (A → A) → TxSet → (ℕ → A) → ℕ → A
-changed f s at i = pick (mem s i) (f (at i)) (at i)
+changed f s at i = cond (mem s i) (f (at i)) (at i)
 
 -- on the way: what is read with the rest yet to be changed is what it was at first with all changed
 pub record Changing {A : Type 0} (f : A → A) (all : TxSet) (was now : ℕ → A) (rest : TxSet) : Type 0 where
@@ -25,7 +24,7 @@ change-start f all was = record { same = λ i. refl }
 -- none is left: all are changed
 pub change-stop : {A : Type 0} {f : A → A} {all : TxSet} {was now : ℕ → A} {rest : TxSet} → Changing f all was now rest → isEmpty rest ≡ true
     → (i : ℕ) → now i ≡ changed f all was i
-change-stop {f = f} {now = now} {rest = rest} h e i = ap (λ (b : Bool). pick b (f (now i)) (now i)) (sym (empty-mem rest e i)) ∙ h .same i
+change-stop {f = f} {now = now} {rest = rest} h e i = ap (λ (b : Bool). cond b (f (now i)) (now i)) (sym (empty-mem rest e i)) ∙ h .same i
 
 -- t is what is left of s without its lowest, d; d is changed, and nothing else is
 pub change-turn : {A : Type 0} (f : A → A) (all : TxSet) (was now next : ℕ → A) (s t : TxSet) (d : ℕ)
@@ -40,11 +39,11 @@ change-turn {A} f all was now next s t d some first less is others h = record { 
     go : (i : ℕ) (b : Bool) → eqb i d ≡ b → changed f t next i ≡ changed f s now i
     go i true e =
         let z : i ≡ d = eqb-true i d e in
-        ap (λ (b : Bool). pick b (f (next i)) (next i)) (out i true (eq-eqb i (lowestOf s) (z ∙ first)) ∙ and-false (mem s i))
+        ap (λ (b : Bool). cond b (f (next i)) (next i)) (out i true (eq-eqb i (lowestOf s) (z ∙ first)) ∙ and-false (mem s i))
         ∙ rw z is
-        ∙ ap (λ (b : Bool). pick b (f (now i)) (now i)) (sym (ap (mem s) (z ∙ first) ∙ lowest-mem s some))
+        ∙ ap (λ (b : Bool). cond b (f (now i)) (now i)) (sym (ap (mem s) (z ∙ first) ∙ lowest-mem s some))
     go i false e =
         let n = eqb-false i d e in
-        ap₂ (λ (b : Bool) (x : A). pick b (f x) x)
+        ap₂ (λ (b : Bool) (x : A). cond b (f x) x)
         (out i false (ne-eqb i (lowestOf s) (λ z. n (z ∙ sym first))) ∙ and-true (mem s i))
         (others i n)

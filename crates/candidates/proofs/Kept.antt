@@ -1,6 +1,6 @@
 -- What every step of specs/Candidates.antt keeps, for any members and any ancestors. Assumes nothing.
 use mathlib.Core.Path.{_≡_, refl, sym, ap, ap₂, _∙_, subst}
-use mathlib.Core.Bool.{Bool, true, false, not, _&&_, _||_}
+use mathlib.Core.Bool.{Bool, true, false, cond, not, _&&_, _||_}
 use mathlib.Core.Logic.{_⊎_, inl, inr, ⊎-elim}
 use mathlib.Core.List.{List, [], _∷_, _++_, append-nil}
 use Prim.Native.Nat.{ℕ, zero, suc, _+_, _≤_, _<_}
@@ -9,15 +9,15 @@ use lib.Dec.{eqb, ltb}
 use lib.IntN.{ℤ}
 use lib.ListN.{length, length-append}
 use borrow.Author.Tests.{eqb-true, eqb-false, ne-eqb, ltb-true, ltb-false, not-true}
-use Rattle.feefrac.specs.Rate.{pick}
-use Rattle.txset.specs.Below.{countFrom, listFrom}
-use Rattle.txset.specs.Lists.{anyOf, elem, distinct}
-use Rattle.txset.proofs.Below.{clash, lt-or-ge, elem-in, elem-out, count-list, count-without}
+use Rattle.lists.specs.Below.{countFrom, listFrom}
+use Rattle.lists.specs.Lists.{anyOf, elem, distinct}
+use Rattle.lists.proofs.Bools.{clash, and-left, and-right, or-left, or-right}
+use Rattle.lists.proofs.Below.{elem-in, elem-out, count-list, count-without}
+use Rattle.lists.proofs.Numbers.{lt-or-ge}
 use Rattle.feeset.specs.Scan.{scan, best, ranksAbove}
 use Rattle.candidates.specs.Candidates.{ancestorSum, remaining, candidate, remainingAncestors, fewerAncestors}
 use Rattle.candidates.specs.Candidates.{appendAncestors, appendFor, rounds}
-use Rattle.txset.proofs.Bools.{and-left, and-right, or-left, or-right}
-use Rattle.txset.proofs.Lists.{elem-append, elem-one, without-append, After}
+use Rattle.lists.proofs.Lists.{elem-append, elem-one, without-append, After}
 use Rattle.feeset.proofs.Scan.{best-elem}
 use Rattle.candidates.proofs.Rounds.{rounds-none}
 
@@ -213,11 +213,11 @@ scan-least : (above : ℕ → ℕ → Bool) (key : ℕ → ℕ) → ((x y : ℕ)
 unfolding scan elem anyOf
 scan-least above key by held [] = (omega arith, λ x e. clash e refl)
 scan-least above key by held (y ∷ ys) =
-    let h = scan-least above key by (pick (above y held) y held) ys in
+    let h = scan-least above key by (cond (above y held) y held) ys in
     let l = low (above y held) (sym (by y held)) in
-    (omega (arith, h .0, l .0), λ x e. each (pick (above y held) y held) (h .1) (omega (arith, h .0, l .1)) x (eqb x y) refl e)
+    (omega (arith, h .0, l .0), λ x e. each (cond (above y held) y held) (h .1) (omega (arith, h .0, l .1)) x (eqb x y) refl e)
   where
-    low : (b : Bool) → ltb (key y) (key held) ≡ b → (key (pick b y held) ≤ key held) × (key (pick b y held) ≤ key y)
+    low : (b : Bool) → ltb (key y) (key held) ≡ b → (key (cond b y held) ≤ key held) × (key (cond b y held) ≤ key y)
     low true e = let l : key y < key held = ltb-true (key y) (key held) e in (omega arith, omega arith)
     low false e = let l : key held ≤ key y = ltb-false (key y) (key held) e in (omega arith, omega arith)
 

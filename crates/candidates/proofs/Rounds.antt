@@ -12,8 +12,8 @@ use borrow.Author.Tests.{lt-ltb, ltb-true, lt-leb, le-leb}
 use Rattle.feefrac.specs.declared.FeeFrac.{FeeFrac}
 use Rattle.feefrac.specs.Rate.{rateAt, rankOrder, isGreater}
 use Rattle.txset.specs.declared.TxSet.{TxSet}
-use Rattle.txset.specs.Below.{bit, countFrom, listFrom}
-use Rattle.txset.specs.Lists.{elem, anyOf}
+use Rattle.lists.specs.Below.{bit, countFrom, listFrom}
+use Rattle.lists.specs.Lists.{elem, anyOf, overwrite}
 use Rattle.txset.specs.Sets.{positions, isPosition, mem, members, size, isEmpty, setAt}
 use Rattle.txset.proofs.Sets.{members-elem, size-members}
 use Rattle.txset.proofs.Walk.{walk-done}
@@ -22,9 +22,9 @@ use Rattle.feeset.specs.Scan.{best, ranksAbove}
 use Rattle.candidates.specs.Candidates.{givenBack, ancestorSum, remaining, candidate, remainingAncestors, fewerAncestors}
 use Rattle.candidates.specs.Candidates.{appendAncestors, appendFor, rounds, ancestorOrder, fits, written, filled}
 use Rattle.candidates.specs.Steps.{ancestorIn, fewerIn, sorted, Turned, GaveBack, Appended}
-use Rattle.txset.proofs.Bools.{and-left}
-use Rattle.txset.proofs.Lists.{elem-append, without-append}
-use Rattle.txset.proofs.Ranges.{list-below, count-below, count-le, count-parts}
+use Rattle.lists.proofs.Bools.{and-left}
+use Rattle.lists.proofs.Lists.{elem-append, without-append}
+use Rattle.lists.proofs.Ranges.{list-below, count-below, count-le, count-parts}
 use Rattle.feeset.proofs.Scan.{best-ext}
 use Rattle.candidates.proofs.Sums.{back-append, back-ext}
 
@@ -313,4 +313,4 @@ unfolding written filled fits ancestorOrder
 fit {fs} {room = room} {len = len} h a b e =
     let t : (leb (length fs) positions && leb (length fs) (length room)) ≡ true =
     ap₂ _&&_ (le-leb (length fs) positions a) (le-leb (length fs) (length room) b) in
-    (rw t (h .count ∙ ap length e), rw t (h .are ∙ ap (λ (k : ℕ). h .out ++ drop k room) (h .count) ∙ ap (λ (l : List ℕ). l ++ drop (length l) room) e))
+    (rw t (h .count ∙ ap length e), rw t (h .are ∙ ap (λ (k : ℕ). h .out ++ drop k room) (h .count) ∙ ap (λ (l : List ℕ). overwrite l room) e))

@@ -1,6 +1,6 @@
 -- The sums as two lists, written one after the other. Assumes nothing.
 use mathlib.Core.Path.{_≡_, refl, ap, _∙_}
-use mathlib.Core.Bool.{Bool, false, not, _&&_}
+use mathlib.Core.Bool.{Bool, false, cond, not, _&&_}
 use mathlib.Core.List.{List, [], _∷_, _++_}
 use Prim.Native.Nat.{ℕ, _+_, _≤_, _<_}
 use native.Mathlib.Numerals.{add-one}
@@ -11,7 +11,7 @@ use lib.ListN.{length, drop, set, getD, drop-of-length-le}
 use lib.Seq.{drop-cons}
 use borrow.Author.Count.{below-more}
 use Rattle.feefrac.specs.declared.FeeFrac.{FeeFrac}
-use Rattle.feefrac.specs.Rate.{pick, difference, rateAt}
+use Rattle.feefrac.specs.Rate.{difference, rateAt}
 use Rattle.feefrac.proofs.Lists.{put-same, put-other}
 use Rattle.txset.specs.declared.TxSet.{TxSet}
 use Rattle.txset.specs.Sets.{positions, mem, isEmpty, lowestOf}
@@ -58,11 +58,11 @@ module _ (fs : List ℤ) (ss : List ℕ) (isAnc : ℕ → Bool) where
   pub back-append : (acc : FeeFrac) (xs ys : List ℕ) → givenBack fs ss isAnc acc (xs ++ ys) ≡ givenBack fs ss isAnc (givenBack fs ss isAnc acc xs) ys
   unfolding givenBack
   back-append acc [] ys = refl
-  back-append acc (x ∷ xs) ys = back-append (pick (isAnc x) (difference acc (rateAt fs ss x)) acc) xs ys
+  back-append acc (x ∷ xs) ys = back-append (cond (isAnc x) (difference acc (rateAt fs ss x)) acc) xs ys
 
   -- the next of the list
   pub back-next : (acc now rate : FeeFrac) (gone : List ℕ) (k : ℕ) (b : Bool) → k < length gone → rate ≡ rateAt fs ss (getD gone k 0)
-      → b ≡ isAnc (getD gone k 0) → now ≡ pick b (difference acc rate) acc
+      → b ≡ isAnc (getD gone k 0) → now ≡ cond b (difference acc rate) acc
       → givenBack fs ss isAnc now (drop (k + 1) gone) ≡ givenBack fs ss isAnc acc (drop k gone)
   unfolding givenBack
   back-next acc now rate gone k b l r is e = rw (add-one, drop-cons gone k 0 l, e, r, is)
@@ -73,8 +73,8 @@ module _ (fs : List ℤ) (ss : List ℕ) (isAnc : ℕ → Bool) where
   unfolding givenBack
   back-ext other e acc [] = refl
   back-ext other e acc (t ∷ ts) =
-      ap (λ (b : Bool). givenBack fs ss isAnc (pick b (difference acc (rateAt fs ss t)) acc) ts) (e t)
-      ∙ back-ext other e (pick (other t) (difference acc (rateAt fs ss t)) acc) ts
+      ap (λ (b : Bool). givenBack fs ss isAnc (cond b (difference acc (rateAt fs ss t)) acc) ts) (e t)
+      ∙ back-ext other e (cond (other t) (difference acc (rateAt fs ss t)) acc) ts
 
   -- none is left
   pub back-none : (acc : FeeFrac) (gone : List ℕ) (k : ℕ) → length gone ≤ k → givenBack fs ss isAnc acc (drop k gone) ≡ acc

@@ -1,7 +1,7 @@
 -- What the order of specs/Candidates.antt is, for readers: each member once, and after its ancestors. Then what the sums are that it goes by.
 -- `fs` are the fees of the members, `ss` their sizes, and `anc i a` says that a is an ancestor of i. Assumes nothing.
 use mathlib.Core.Path.{_≡_, refl, sym, ap, ap₂, _∙_}
-use mathlib.Core.Bool.{Bool, true, false, not, _&&_, _||_, and-true}
+use mathlib.Core.Bool.{Bool, true, false, cond, not, _&&_, _||_, and-true}
 use mathlib.Core.List.{List, [], _∷_, _++_}
 use Prim.Native.Nat.{ℕ, suc, _+_, _-_, _≤_, _<_}
 use native.Mathlib.Omega.{arith}
@@ -10,14 +10,14 @@ use lib.IntN.{ℤ, pos, natAbs, negℤ, _+ℤ_, _-ℤ_, +ℤ-idl, +ℤ-idr, +ℤ
 use lib.ListN.{length, getD}
 use borrow.Author.Tests.{not-true, not-false, eqb-true}
 use Rattle.feefrac.specs.declared.FeeFrac.{FeeFrac}
-use Rattle.feefrac.specs.Rate.{pick, heldSize, difference, rateAt}
+use Rattle.feefrac.specs.Rate.{heldSize, difference, rateAt}
 use Rattle.feefrac.proofs.Exact.{difference-exact, abs-difference, abs-exact, exactSum, spread, Within, sumOf}
-use Rattle.txset.specs.Below.{keepIf, countFrom, listFrom}
-use Rattle.txset.specs.Lists.{anyOf, elem, distinct}
-use Rattle.txset.proofs.Below.{elem-in, count-list, list-ext, list-with, list-without}
-use Rattle.txset.proofs.Bools.{and-left, and-right}
-use Rattle.txset.proofs.Lists.{elem-head, elem-tail, After}
-use Rattle.txset.proofs.Ranges.{count-le}
+use Rattle.lists.specs.Below.{keepIf, countFrom, listFrom}
+use Rattle.lists.specs.Lists.{anyOf, elem, distinct}
+use Rattle.lists.proofs.Below.{elem-in, count-list, list-ext, list-with, list-without}
+use Rattle.lists.proofs.Bools.{and-left, and-right}
+use Rattle.lists.proofs.Lists.{elem-head, elem-tail, After}
+use Rattle.lists.proofs.Ranges.{count-le}
 use Rattle.feeset.specs.Total.{total}
 use Rattle.feeset.proofs.Exact.{feesAt, sizesAt, at-spread, total-fee, total-size}
 use Rattle.candidates.specs.Candidates.{givenBack, ancestorSum, remaining, remainingAncestors, rounds, ancestorOrder}
@@ -158,7 +158,7 @@ module _ (fs : List ℤ) (ss : List ℕ) (isAnc : ℕ → Bool) where
       go : (b : Bool) → natAbs (acc .fee) + spread (feesAt fs (keepIf b t rest)) < 9223372036854775808
           → ((a : FeeFrac) → natAbs (a .fee) + spread (feesAt fs rest) < 9223372036854775808
           → givenBack fs ss isAnc a ts .fee ≡ a .fee -ℤ exactSum (feesAt fs rest))
-          → givenBack fs ss isAnc (pick b (difference acc (rateAt fs ss t)) acc) ts .fee ≡ acc .fee -ℤ exactSum (feesAt fs (keepIf b t rest))
+          → givenBack fs ss isAnc (cond b (difference acc (rateAt fs ss t)) acc) ts .fee ≡ acc .fee -ℤ exactSum (feesAt fs (keepIf b t rest))
       go true h k =
           let r = rateAt fs ss t in
           let e : difference acc r .fee ≡ acc .fee -ℤ r .fee = difference-exact acc r (omega arith) in
@@ -178,7 +178,7 @@ module _ (fs : List ℤ) (ss : List ℕ) (isAnc : ℕ → Bool) where
       rest = amongst isAnc ts
 
       go : (b : Bool) → ((a : FeeFrac) → givenBack fs ss isAnc a ts .size ≡ a .size - sumOf (sizesAt ss rest))
-          → givenBack fs ss isAnc (pick b (difference acc (rateAt fs ss t)) acc) ts .size ≡ acc .size - sumOf (sizesAt ss (keepIf b t rest))
+          → givenBack fs ss isAnc (cond b (difference acc (rateAt fs ss t)) acc) ts .size ≡ acc .size - sumOf (sizesAt ss (keepIf b t rest))
       go true k = omega (arith, k (difference acc (rateAt fs ss t)))
       go false k = k acc
 

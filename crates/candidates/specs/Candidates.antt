@@ -1,15 +1,15 @@
 -- Document 01, module 6 (linearize), up to the post pass. `n` is the number of members, `anc i a` says that a is an ancestor of i, and
 -- `out` lists the members already out, in their order. Assumes nothing.
 use Prim.Native.Nat.{ℕ, zero, suc}
-use mathlib.Core.Bool.{Bool, not, _&&_}
+use mathlib.Core.Bool.{Bool, cond, not, _&&_}
 use mathlib.Core.List.{List, [], _∷_, _++_}
 use lib.ListN.{length, drop}
 use lib.Dec.{ltb, leb}
 use lib.IntN.{ℤ}
 use Rattle.feefrac.specs.declared.FeeFrac.{FeeFrac}
-use Rattle.feefrac.specs.Rate.{pick, difference, rateAt}
-use Rattle.txset.specs.Below.{countFrom, listFrom}
-use Rattle.txset.specs.Lists.{elem}
+use Rattle.feefrac.specs.Rate.{difference, rateAt}
+use Rattle.lists.specs.Below.{countFrom, listFrom}
+use Rattle.lists.specs.Lists.{elem, overwrite}
 use Rattle.txset.specs.Sets.{positions}
 use Rattle.feeset.specs.Total.{total}
 use Rattle.feeset.specs.Scan.{best, ranksAbove}
@@ -17,7 +17,7 @@ use Rattle.feeset.specs.Scan.{best, ranksAbove}
 -- "with members already out given back": those of the list that are ancestors, one after the other
 unfoldable pub givenBack : List ℤ → List ℕ → (ℕ → Bool) → FeeFrac → List ℕ → FeeFrac
 givenBack fs ss isAnc acc [] = acc
-givenBack fs ss isAnc acc (t ∷ ts) = givenBack fs ss isAnc (pick (isAnc t) (difference acc (rateAt fs ss t)) acc) ts
+givenBack fs ss isAnc acc (t ∷ ts) = givenBack fs ss isAnc (cond (isAnc t) (difference acc (rateAt fs ss t)) acc) ts
 
 -- "[its] ancestor sum, with members already out given back"
 unfoldable pub ancestorSum : List ℤ → List ℕ → ℕ → (ℕ → ℕ → Bool) → List ℕ → ℕ → FeeFrac
@@ -65,7 +65,7 @@ unfoldable pub fits : List ℤ → List ℕ → Bool
 fits fs room = leb (length fs) positions && leb (length fs) (length room)
 
 unfoldable pub written : List ℤ → List ℕ → (ℕ → ℕ → Bool) → List ℕ → ℕ
-written fs ss anc room = pick (fits fs room) (length (ancestorOrder fs ss anc)) 0
+written fs ss anc room = cond (fits fs room) (length (ancestorOrder fs ss anc)) 0
 
 unfoldable pub filled : List ℤ → List ℕ → (ℕ → ℕ → Bool) → List ℕ → List ℕ
-filled fs ss anc room = pick (fits fs room) (ancestorOrder fs ss anc ++ drop (length (ancestorOrder fs ss anc)) room) room
+filled fs ss anc room = cond (fits fs room) (overwrite (ancestorOrder fs ss anc) room) room

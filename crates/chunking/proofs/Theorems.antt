@@ -10,9 +10,9 @@ use lib.ListN.{length, take, drop, getD, length-append, length-map}
 use lib.Seq.{take-append-seam, drop-append-seam, take-at, drop-at}
 use lib.IntN.{ℤ, natAbs, _+ℤ_, +ℤ-idr, +ℤ-comm}
 use Rattle.feefrac.proofs.Exact.{sum-exact, exactSum, exact-append, spread, spread-append, abs-exact, Within, within-spread, sumOf, sumOf-append}
-use Rattle.feefrac.proofs.Picks.{pick-where}
+use Rattle.lists.proofs.Bools.{cond-where}
 use Rattle.feefrac.specs.declared.FeeFrac.{FeeFrac}
-use Rattle.feefrac.specs.Rate.{pick, heldSize, sum, higher}
+use Rattle.feefrac.specs.Rate.{heldSize, sum, higher}
 use Rattle.txset.specs.Sets.{positions}
 use Rattle.txset.proofs.Words.{Fits}
 use Rattle.refusals.specs.Refusals.{anyOutside}
@@ -39,7 +39,7 @@ count-swallow : (c : Chunk) (cs : List Chunk) → count (swallow c cs) ≡ c .le
 unfolding count swallow
 count-swallow c [] = refl
 count-swallow c (t ∷ ts) =
-    pick-where (λ (l : List Chunk). count l ≡ c .len + (t .len + count ts)) (higher (c .rate) (t .rate))
+    cond-where (λ (l : List Chunk). count l ≡ c .len + (t .len + count ts)) (higher (c .rate) (t .rate))
     (λ e. omega (arith, count-swallow (joined c t) ts))
     (λ e. refl)
 
@@ -69,7 +69,7 @@ filled-swallow : (c : Chunk) (cs : List Chunk) → Filled c → Each Filled cs �
 unfolding Each swallow
 filled-swallow c [] h p = (h, tt)
 filled-swallow c (t ∷ ts) h p =
-    pick-where (Each Filled) (higher (c .rate) (t .rate)) (λ e. filled-swallow (joined c t) ts (omega arith) (p .1)) (λ e. (h, p))
+    cond-where (Each Filled) (higher (c .rate) (t .rate)) (λ e. filled-swallow (joined c t) ts (omega arith) (p .1)) (λ e. (h, p))
 
 each-snoc : (xs : List ℕ) (k : ℕ) → Each Some xs → Some k → Each Some (xs ++ (k ∷ []))
 unfolding Each
@@ -121,7 +121,7 @@ falling-swallow : (c : Chunk) (cs : List Chunk) → falling cs ≡ true → fall
 unfolding falling swallow
 falling-swallow c [] e = refl
 falling-swallow c (t ∷ ts) e =
-    pick-where (λ (cs : List Chunk). falling cs ≡ true) (higher (c .rate) (t .rate))
+    cond-where (λ (cs : List Chunk). falling cs ≡ true) (higher (c .rate) (t .rate))
     (λ h. falling-swallow (joined c t) ts (falling-rest t ts e))
     (λ h. rw h e)
 
@@ -151,7 +151,7 @@ module _
   cut-swallow c (t ∷ ts) front own h p k =
       let e : front ++ own ≡ k .0 ++ (k .1 ++ own) = ap (λ (l : List FeeFrac). l ++ own) (k .2) ∙ append-assoc (k .0) (k .1) own in
       let q : Q (k .0 ++ (k .1 ++ own)) = rw e at h in
-      pick-where (CutBy P (front ++ own)) (higher (c .rate) (t .rate))
+      cond-where (CutBy P (front ++ own)) (higher (c .rate) (t .rate))
       (λ _. rw e (cut-swallow (joined c t) ts (k .0) (k .1 ++ own) q (two c t (k .1) own (in-back (k .0) (k .1 ++ own) q) p (k .3)) (k .4)))
       (λ _. (front, own, refl, p, k))
 

@@ -1,13 +1,14 @@
 -- Document 01, module 4 (chunk_lengths), on the feerates of a list in its order. A list of chunks has the last chunk first.
 -- Assumes nothing.
 use Prim.Native.Nat.{ℕ, _+_}
-use mathlib.Core.Bool.{Bool, _&&_}
+use mathlib.Core.Bool.{Bool, cond, _&&_}
 use mathlib.Core.List.{List, [], _∷_, _++_}
 use lib.ListN.{length, drop}
 use lib.Dec.{eqb, leb}
 use lib.IntN.{ℤ}
+use Rattle.lists.specs.Lists.{overwrite}
 use Rattle.feefrac.specs.declared.FeeFrac.{FeeFrac}
-use Rattle.feefrac.specs.Rate.{pick, sum, higher}
+use Rattle.feefrac.specs.Rate.{sum, higher}
 use Rattle.txset.specs.Sets.{positions}
 use Rattle.refusals.specs.declared.Reply.{Reply}
 use Rattle.refusals.specs.Refusals.{Line, line, refusal, success, replyOf, keptUnless, differ, tooMany, short, anyOutside}
@@ -24,7 +25,7 @@ joined c t = record { rate = sum (c .rate) (t .rate); len = c .len + t .len }
 -- "while it is strictly higher than the chunk before it, it swallows that chunk"
 unfoldable pub swallow : Chunk → List Chunk → List Chunk
 swallow c [] = c ∷ []
-swallow c (t ∷ ts) = pick (higher (c .rate) (t .rate)) (swallow (joined c t) ts) (c ∷ t ∷ ts)
+swallow c (t ∷ ts) = cond (higher (c .rate) (t .rate)) (swallow (joined c t) ts) (c ∷ t ∷ ts)
 
 -- the members come one after the other
 unfoldable pub chunksAfter : List Chunk → List FeeFrac → List Chunk
@@ -57,7 +58,7 @@ reply fs ss room = replyOf refusal (refusals fs ss room) (success (length (chunk
 -- "the chunk lengths .. the rest stays"
 unfoldable pub roomAfter : List ℤ → List ℕ → List ℕ → List ℕ
 roomAfter fs ss room =
-    keptUnless (refusals fs ss room) room (chunkLengths (rates fs ss) ++ drop (length (chunkLengths (rates fs ss))) room)
+    keptUnless (refusals fs ss room) room (overwrite (chunkLengths (rates fs ss)) room)
 
 -- ---- what the function between crates promises for any input
 
@@ -66,7 +67,7 @@ unfoldable pub fits : List ℤ → List ℕ → List ℕ → Bool
 fits fs ss room = eqb (length fs) (length ss) && (leb (length fs) positions && leb (length fs) (length room))
 
 unfoldable pub written : List ℤ → List ℕ → List ℕ → ℕ
-written fs ss room = pick (fits fs ss room) (length (chunkLengths (rates fs ss))) 0
+written fs ss room = cond (fits fs ss room) (length (chunkLengths (rates fs ss))) 0
 
 unfoldable pub filled : List ℤ → List ℕ → List ℕ → List ℕ
-filled fs ss room = pick (fits fs ss room) (chunkLengths (rates fs ss) ++ drop (length (chunkLengths (rates fs ss))) room) room
+filled fs ss room = cond (fits fs ss room) (overwrite (chunkLengths (rates fs ss)) room) room

@@ -13,7 +13,7 @@ use mir.Syntax.{w64}
 use mir.Val.{SFits, toZ, ofZ}
 use mir.Facts.{toZ-ofZ, toZ-pos}
 use borrow.Author.Tests.{lt-ltb, le-leb, lt-leb, eq-eqb, ne-eqb}
-use Rattle.txset.specs.Lists.{allOf}
+use Rattle.lists.specs.Lists.{allOf}
 use Rattle.cluster_reader.specs.declared.numerals.Number.the-variants.{Value, Malformed}
 use Rattle.cluster_reader.specs.declared.numerals.Fee.the-variants.{Sats, Wrong}
 use Rattle.cluster_reader.specs.Numerals.{isDigit, valueFrom, isPlain, numberOf, negative, positive, feeOf}

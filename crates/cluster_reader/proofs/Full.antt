@@ -1,12 +1,11 @@
 -- A text that is longer than the lines of the largest cluster: whatever stands in it, it is no cluster. Assumes nothing.
 use mathlib.Core.Path.{_≡_, refl, _∙_}
-use mathlib.Core.Bool.{Bool, true, false, _&&_}
+use mathlib.Core.Bool.{Bool, true, false, cond, _&&_}
 use mathlib.Core.List.{List, [], _∷_, _++_}
 use Prim.Native.Nat.{ℕ, zero, suc, _+_, _*_, _≤_, _<_}
 use native.Mathlib.Omega.{arith}
 use lib.ListN.{length, drop, length-drop}
 use lib.IntN.{ℤ}
-use Rattle.feefrac.specs.Rate.{pick}
 use Rattle.cluster_reader.specs.declared.First.the-variants as count
 use Rattle.cluster_reader.specs.declared.FirstLine.{FirstLine}
 use Rattle.cluster_reader.specs.Numerals.{numberOf, feeOf}
@@ -14,7 +13,7 @@ use Rattle.cluster_reader.specs.Lines.{behind, longestLine, longestText,
 use Rattle.cluster_reader.specs.Reading.{feeKey, sizeKey, parentsKey, isNumber, isFee, parts, areNumbers}
 use Rattle.cluster_reader.specs.Reading.{isMember, memberFee, memberSize, memberParents, nextMember, Read, refused, members, read}
 use Rattle.cluster_reader.specs.Steps.{firstOf}
-use Rattle.txset.proofs.Bools.{and-both}
+use Rattle.lists.proofs.Bools.{and-both}
 use Rattle.cluster_reader.proofs.Places.{field-passes}
 use Rattle.cluster_reader.proofs.Reading.{read-count}
 
@@ -41,7 +40,7 @@ members-full (suc k) xs fs ss ps l =
     (λ e. members-full k (nextMember xs) (fs ++ (memberFee xs ∷ [])) (ss ++ (memberSize xs ∷ [])) (ps ++ (memberParents xs ∷ []))
     (omega (arith, member-passes xs e)))
   where
-    go : {r : Read} (b : Bool) → isMember xs ≡ b → (isMember xs ≡ true → r ≡ refused 13) → pick b r (refused 13) ≡ refused 13
+    go : {r : Read} (b : Bool) → isMember xs ≡ b → (isMember xs ≡ true → r ≡ refused 13) → cond b r (refused 13) ≡ refused 13
     go true e f = f e
     go false e f = refl
 

@@ -14,7 +14,7 @@ use Rattle.cluster_reader.specs.Numerals.{isNil, numberOf}
 use Rattle.cluster_reader.specs.Lines.{behind, isField, valueOf}
 use Rattle.cluster_reader.specs.Reading.{nKey, isNumber, numberIn, isMember, memberFee, memberSize, memberParents, nextMember}
 use Rattle.cluster_reader.specs.Reading.{refused, cluster, members, read}
-use Rattle.cluster_reader.proofs.Picks.{first, second}
+use Rattle.lists.proofs.Bools.{cond-first, cond-second}
 
 -- three lists of n
 record Long (n : ℕ) (fs : List ℤ) (ss ps : List ℕ) : Type 0 where
@@ -31,7 +31,7 @@ members-long : (k : ℕ) (xs : List ℕ) {n : ℕ} (fs : List ℤ) (ss ps : List
     → members k xs fs ss ps ≡ cluster gs ts qs → Long (k + n) gs ts qs
 unfolding members
 members-long zero xs {n} fs ss ps {gs} {ts} {qs} h e =
-    let same = first (isNil xs) e not-read .1 in
+    let same = cond-first (isNil xs) e not-read .1 in
     let f : gs ≡ fs = cc in
     let s : ts ≡ ss = cc in
     let p : qs ≡ ps = cc in
@@ -39,7 +39,7 @@ members-long zero xs {n} fs ss ps {gs} {ts} {qs} h e =
 members-long (suc k) xs {n} fs ss ps h e =
     let more : Long (suc n) (fs ++ (memberFee xs ∷ [])) (ss ++ (memberSize xs ∷ [])) (ps ++ (memberParents xs ∷ [])) =
     record { fees = one fs (memberFee xs) (h .fees); sizes = one ss (memberSize xs) (h .sizes); parents = one ps (memberParents xs) (h .parents) } in
-    let r = members-long k (nextMember xs) _ _ _ more (first (isMember xs) e not-read .1) in
+    let r = members-long k (nextMember xs) _ _ _ more (cond-first (isMember xs) e not-read .1) in
     record { fees = omega (arith, r .fees); sizes = omega (arith, r .sizes); parents = omega (arith, r .parents) }
   where
     one : {A : Type 0} {m : ℕ} (l : List A) (x : A) → length l ≡ m → length (l ++ (x ∷ [])) ≡ suc m
@@ -55,8 +55,8 @@ pub read-whole : (text : List ℕ) {fs : List ℤ} {ss ps : List ℕ} → read t
 unfolding read
 read-whole text e =
     let n = numberIn (numberOf (valueOf nKey text)) in
-    let form = first (isField nKey text && isNumber (numberOf (valueOf nKey text))) e not-read .1 in
-    let count = second (ltb positions n) form not-read in
+    let form = cond-first (isField nKey text && isNumber (numberOf (valueOf nKey text))) e not-read .1 in
+    let count = cond-second (ltb positions n) form not-read in
     let r = members-long n (behind 10 text) {n = 0} [] [] [] (record { fees = refl; sizes = refl; parents = refl }) (count .1) in
     record {
       few = omega (arith, r .fees, ltb-false positions n (count .0));

@@ -1,4 +1,3 @@
-pub mod Picks
 pub mod Copies
 pub mod Decimals
 pub mod Places

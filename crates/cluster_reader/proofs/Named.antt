@@ -1,6 +1,6 @@
 -- Laws of a list of positions between commas: the parts one after the other, and the word of the set that they name. Assumes nothing.
 use mathlib.Core.Path.{_≡_, refl, sym, ap, ap₂, _∙_}
-use mathlib.Core.Bool.{Bool, true, false, _&&_, _||_, or-false}
+use mathlib.Core.Bool.{Bool, true, false, cond, _&&_, _||_, or-false}
 use mathlib.Core.Logic.{⊎-elim}
 use mathlib.Core.List.{List, [], _∷_, _++_, append-nil, append-assoc}
 use Prim.Native.Nat.{ℕ, suc, _+_, _^_, _≤_, _<_}
@@ -10,11 +10,10 @@ use lib.Bits.{bitOr, or-lt}
 use lib.Pow.{pow-lt}
 use lib.ListN.{length, drop, length-drop}
 use borrow.Author.Tests.{lt-ltb, le-ltb, ne-eqb}
-use Rattle.feefrac.specs.Rate.{pick}
-use Rattle.txset.specs.Lists.{allOf}
+use Rattle.lists.specs.Lists.{allOf}
 use Rattle.txset.specs.Sets.{has, mem, positions, isPosition}
 use Rattle.txset.specs.declared.TxSet.{TxSet}
-use Rattle.txset.proofs.Below.{lt-or-ge}
+use Rattle.lists.proofs.Numbers.{lt-or-ge}
 use Rattle.txset.proofs.Bits.{has-ext, has-or, has-pow, has-nil}
 use Rattle.txset.proofs.Words.{hasIn-low}
 use Rattle.cluster_reader.specs.declared.numerals.Number.{Number}
@@ -29,17 +28,17 @@ use Rattle.cluster_reader.proofs.Places.{place-behind}
 -- ---- the first part, and those behind its comma
 
 parts-cut : (part xs : List ℕ)
-    → partsFrom part xs ≡ (part ++ before 44 xs) ∷ pick (ltb (length (before 44 xs)) (length xs)) (partsFrom [] (behind 44 xs)) []
+    → partsFrom part xs ≡ (part ++ before 44 xs) ∷ cond (ltb (length (before 44 xs)) (length xs)) (partsFrom [] (behind 44 xs)) []
 unfolding partsFrom before behind
 parts-cut part [] = ap (λ (l : List ℕ). l ∷ []) (sym (append-nil part))
 parts-cut part (b ∷ bs) = go (eqb b 44) (parts-cut (part ++ (b ∷ [])) bs)
   where
     go : (t : Bool)
         → partsFrom (part ++ (b ∷ [])) bs
-        ≡ ((part ++ (b ∷ [])) ++ before 44 bs) ∷ pick (ltb (length (before 44 bs)) (length bs)) (partsFrom [] (behind 44 bs)) []
-        → pick t (part ∷ partsFrom [] bs) (partsFrom (part ++ (b ∷ [])) bs)
-        ≡ (part ++ pick t [] (b ∷ before 44 bs))
-        ∷ pick (ltb (length (pick t [] (b ∷ before 44 bs))) (suc (length bs))) (partsFrom [] (drop (suc (length (pick t [] (b ∷ before 44 bs)))) (b ∷ bs))) []
+        ≡ ((part ++ (b ∷ [])) ++ before 44 bs) ∷ cond (ltb (length (before 44 bs)) (length bs)) (partsFrom [] (behind 44 bs)) []
+        → cond t (part ∷ partsFrom [] bs) (partsFrom (part ++ (b ∷ [])) bs)
+        ≡ (part ++ cond t [] (b ∷ before 44 bs))
+        ∷ cond (ltb (length (cond t [] (b ∷ before 44 bs))) (suc (length bs))) (partsFrom [] (drop (suc (length (cond t [] (b ∷ before 44 bs)))) (b ∷ bs))) []
     go true h = rw (append-nil, lt-ltb 0 (suc (length bs)) (omega arith))
     go false h = h ∙ rw (append-assoc, leb·suc-suc (suc (length (before 44 bs))) (length bs))
 
@@ -53,7 +52,7 @@ parts-more xs l = parts-cut [] xs ∙ rw (lt-ltb (length (before 44 xs)) (length
 
 -- the word with position p in it, if a set can hold p
 abbrev pub wordWith : ℕ → ℕ → ℕ
-wordWith w p = pick (ltb p positions) (bitOr w (2 ^ p)) w
+wordWith w p = cond (ltb p positions) (bitOr w (2 ^ p)) w
 
 pub word-empty : (s : TxSet) → s .word < 2 ^ 64 → ((i : ℕ) → mem s i ≡ false) → s .word ≡ 0
 unfolding mem

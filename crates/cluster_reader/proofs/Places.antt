@@ -1,6 +1,6 @@
 -- Laws of specs/Lines.antt, at a place of the text. Assumes nothing.
 use mathlib.Core.Path.{_≡_, refl, sym, ap, ap₂, _∙_}
-use mathlib.Core.Bool.{Bool, true, false, and-false}
+use mathlib.Core.Bool.{Bool, true, false, cond, and-false}
 use mathlib.Core.List.{List, [], _∷_, _++_}
 use Prim.Native.Nat.{ℕ, zero, suc, _+_, _-_, _≤_, _<_}
 use native.Mathlib.Nat.{sub-zero, zero-sub, suc-sub-suc, add-zero, add-suc, suc-add}
@@ -10,15 +10,12 @@ use lib.Dec.{eqb, ltb, leb}
 use lib.ListN.{length, getD, take, drop, drop-of-length-le, length-drop, length-append}
 use lib.Seq.{drop-cons, drop-drop, take-nil}
 use borrow.Author.Tests.{le-leb, lt-leb, lt-ltb, le-ltb, eq-eqb, ne-eqb, ltb-true, leb-true}
-use Rattle.feefrac.specs.Rate.{pick}
-use Rattle.txset.proofs.Below.{clash}
-use Rattle.txset.proofs.Bools.{and-both}
+use Rattle.lists.proofs.Bools.{clash, and-both, cond-first, cond-second}
 use Rattle.cluster_reader.specs.declared.lines.Line.the-variants.{Ends, Malformed}
 use Rattle.cluster_reader.specs.declared.lines.Value.the-variants as value
 use Rattle.cluster_reader.specs.declared.lines.Span.{Span}
 use Rattle.cluster_reader.specs.Lines.{before, behind, isLine, longestLine, starts, isField, valueOf}
 use Rattle.cluster_reader.specs.Steps.{placeOf, lineAt, fieldAt, hasEnd}
-use Rattle.cluster_reader.proofs.Picks.{first, second}
 
 -- ---- the place of a byte
 
@@ -27,7 +24,7 @@ unfolding before
 before-le b [] = omega arith
 before-le b (x ∷ xs) = go (eqb x b) (before-le b xs)
   where
-    go : (t : Bool) → length (before b xs) ≤ length xs → length (pick t [] (x ∷ before b xs)) ≤ suc (length xs)
+    go : (t : Bool) → length (before b xs) ≤ length xs → length (cond t [] (x ∷ before b xs)) ≤ suc (length xs)
     go true h = omega arith
     go false h = omega arith
 
@@ -132,7 +129,7 @@ unfolding before
 before-take b [] = refl
 before-take b (x ∷ xs) = go (eqb x b) (before-take b xs)
   where
-    go : (t : Bool) → take (length (before b xs)) xs ≡ before b xs → take (length (pick t [] (x ∷ before b xs))) (x ∷ xs) ≡ pick t [] (x ∷ before b xs)
+    go : (t : Bool) → take (length (before b xs)) xs ≡ before b xs → take (length (cond t [] (x ∷ before b xs))) (x ∷ xs) ≡ cond t [] (x ∷ before b xs)
     go true e = refl
     go false e = ap (λ (l : List ℕ). x ∷ l) e
 
@@ -163,13 +160,13 @@ pub record Whole (text : List ℕ) (from end : ℕ) : Type 0 where
 pub line-ends : (text : List ℕ) (from end : ℕ) → lineAt text from ≡ Ends end → Whole text from end
 unfolding lineAt
 line-ends text from end h =
-    let p = first (isLine (drop from text)) h (λ e. let z : _≡_ {A = ℕ} 0 1 = cc in omega arith) in
+    let p = cond-first (isLine (drop from text)) h (λ e. let z : _≡_ {A = ℕ} 0 1 = cc in omega arith) in
     let e : end ≡ placeOf 10 text from = cc in
     record { line = p .0; at = e; inside = omega (arith, line-inside (drop from text) (p .0), length-drop from text) }
 
 pub line-malformed : (text : List ℕ) (from : ℕ) → lineAt text from ≡ Malformed → isLine (drop from text) ≡ false
 unfolding lineAt
-line-malformed text from h = second (isLine (drop from text)) h (λ e. let z : _≡_ {A = ℕ} 0 1 = cc in omega arith) .0
+line-malformed text from h = cond-second (isLine (drop from text)) h (λ e. let z : _≡_ {A = ℕ} 0 1 = cc in omega arith) .0
 
 -- ---- a field: a line with its key
 
@@ -209,7 +206,7 @@ module _ (key text : List ℕ) (from : ℕ) {xs : List ℕ} (here : drop from te
   pub field-between : (s : Span) → fieldAt key text from ≡ value.Between s → Field key xs text from (s .start) (s .end)
   unfolding fieldAt isField
   field-between s h =
-      let p = first (isField key (drop from text)) h (λ e. let z : _≡_ {A = ℕ} 0 1 = cc in omega arith) in
+      let p = cond-first (isField key (drop from text)) h (λ e. let z : _≡_ {A = ℕ} 0 1 = cc in omega arith) in
       let q : record { start = from + length key; end = placeOf 10 text from } ≡ s = cc in
       let st : from + length key ≡ s .start = ap (λ (t : Span). t .start) q in
       let en : placeOf 10 text from ≡ s .end = ap (λ (t : Span). t .end) q in
@@ -226,7 +223,7 @@ module _ (key text : List ℕ) (from : ℕ) {xs : List ℕ} (here : drop from te
   pub field-malformed : fieldAt key text from ≡ value.Malformed → isField key xs ≡ false
   unfolding fieldAt
   field-malformed h =
-      ap (isField key) (sym here) ∙ second (isField key (drop from text)) h (λ e. let z : _≡_ {A = ℕ} 0 1 = cc in omega arith) .0
+      ap (isField key) (sym here) ∙ cond-second (isField key (drop from text)) h (λ e. let z : _≡_ {A = ℕ} 0 1 = cc in omega arith) .0
 
 -- ---- a text that goes on: a first line that is whole stays, and one that is not stays as long at least
 
@@ -236,7 +233,7 @@ before-append b [] ys h = absurd (omega arith)
 before-append b (x ∷ xs) ys h = go (eqb x b) (before-append b xs ys) h
   where
     go : (t : Bool) → (length (before b xs) < length xs → before b (xs ++ ys) ≡ before b xs)
-        → length (pick t [] (x ∷ before b xs)) < suc (length xs) → pick t [] (x ∷ before b (xs ++ ys)) ≡ pick t [] (x ∷ before b xs)
+        → length (cond t [] (x ∷ before b xs)) < suc (length xs) → cond t [] (x ∷ before b (xs ++ ys)) ≡ cond t [] (x ∷ before b xs)
     go true f l = refl
     go false f l = ap (λ (l : List ℕ). x ∷ l) (f (omega arith))
 
@@ -246,7 +243,7 @@ before-grows b [] ys h = omega arith
 before-grows b (x ∷ xs) ys h = go (eqb x b) (before-grows b xs ys) h
   where
     go : (t : Bool) → (length xs ≤ length (before b xs) → length xs ≤ length (before b (xs ++ ys)))
-        → suc (length xs) ≤ length (pick t [] (x ∷ before b xs)) → suc (length xs) ≤ length (pick t [] (x ∷ before b (xs ++ ys)))
+        → suc (length xs) ≤ length (cond t [] (x ∷ before b xs)) → suc (length xs) ≤ length (cond t [] (x ∷ before b (xs ++ ys)))
     go true f l = absurd (omega arith)
     go false f l = omega (arith, f (omega arith))
 

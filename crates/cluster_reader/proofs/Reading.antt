@@ -1,6 +1,6 @@
 -- Laws of specs/Reading.antt: the first line, a member's lines, and the members one after the other. Assumes nothing.
 use mathlib.Core.Path.{_≡_, refl, sym, ap, _∙_}
-use mathlib.Core.Bool.{Bool, true, false, _&&_, and-false, and-true}
+use mathlib.Core.Bool.{Bool, true, false, cond, _&&_, and-false, and-true}
 use mathlib.Core.Logic.{⊎-elim}
 use mathlib.Core.List.{List, [], _++_}
 use Prim.Native.Nat.{ℕ, suc, _+_, _-_, _≤_, _<_}
@@ -12,10 +12,9 @@ use lib.ListN.{length, drop, take, set, length-drop, length-set, drop-of-length-
 use lib.Seq.{drop-cons, take-suc-set}
 use lib.IntN.{ℤ}
 use borrow.Author.Tests.{lt-ltb, le-ltb, ltb-true, ltb-false}
-use Rattle.feefrac.specs.Rate.{pick}
 use Rattle.txset.specs.Sets.{positions}
-use Rattle.txset.proofs.Below.{lt-or-ge}
-use Rattle.txset.proofs.Bools.{and-both}
+use Rattle.lists.proofs.Numbers.{lt-or-ge}
+use Rattle.lists.proofs.Bools.{and-both, cond-first, cond-second}
 use Rattle.txset.specs.declared.TxSet.{TxSet}
 use Rattle.cluster_reader.specs.declared.numerals.Number.the-variants as number
 use Rattle.cluster_reader.specs.declared.numerals.Fee.the-variants as fee
@@ -33,7 +32,6 @@ use Rattle.cluster_reader.specs.Reading.{nKey, feeKey, sizeKey, parentsK
 use Rattle.cluster_reader.specs.Reading.{isMember, memberFee, memberSize, memberParents, nextMember, Read, refused, cluster, members, read}
 use Rattle.cluster_reader.specs.Calls.{inputOf, feesAfter, sizesAfter, parentsAfter, Decided, isDecided}
 use Rattle.cluster_reader.specs.Steps.{nextLine, hasEnd, firstOf, memberAt, parentsIn}
-use Rattle.cluster_reader.proofs.Picks.{first, second}
 use Rattle.cluster_reader.proofs.Places.{Field, field-inside, field-short, place-behind, goes-on, too-long}
 
 -- ---- the first line
@@ -107,7 +105,7 @@ module _ (text : List ℕ) (from : ℕ) where
   pub no-parents : parentsIn (valueOf parentsKey parentsLine) ≡ parents.Malformed → memberAt text from ≡ member.Malformed
   unfolding parentsIn
   no-parents e =
-      let p = second (areNumbers (parts (valueOf parentsKey parentsLine))) e (λ q. let z : _≡_ {A = ℕ} 0 1 = cc in omega arith) in
+      let p = cond-second (areNumbers (parts (valueOf parentsKey parentsLine))) e (λ q. let z : _≡_ {A = ℕ} 0 1 = cc in omega arith) in
       not-parents (rw (p .0, and-false (isField parentsKey parentsLine)))
 
   pub member-read : {s₁ e₁ s₂ e₂ s₃ e₃ : ℕ} (f : ℤ) (n : ℕ) (p : TxSet)
@@ -117,7 +115,7 @@ module _ (text : List ℕ) (from : ℕ) where
       → memberAt text from ≡ member.Read (record { fee = f; size = n; parents = p; next = e₃ + 1 })
   unfolding memberAt isMember parentsIn
   member-read f n p a ea b eb c ec =
-      let q = first (areNumbers (parts (valueOf parentsKey parentsLine))) ec (λ q. let z : _≡_ {A = ℕ} 0 1 = cc in omega arith) in
+      let q = cond-first (areNumbers (parts (valueOf parentsKey parentsLine))) ec (λ q. let z : _≡_ {A = ℕ} 0 1 = cc in omega arith) in
       let s : record { word = wordOf 0 (parts (valueOf parentsKey parentsLine)) } ≡ p = cc in
       rw (a .field, ea, b .field, eb, c .field, q .0, s, c .at, b .at, a .at)
 
@@ -143,7 +141,7 @@ module _ (text : List ℕ) (from : ℕ) where
   pub member-lines : (m : MemberLines) → memberAt text from ≡ member.Read m → Lines (drop from text) text m
   unfolding memberAt
   member-lines m h =
-      let p = first (isMember (drop from text)) h (λ e. let z : _≡_ {A = ℕ} 0 1 = cc in omega arith) in
+      let p = cond-first (isMember (drop from text)) h (λ e. let z : _≡_ {A = ℕ} 0 1 = cc in omega arith) in
       let q : record {
         fee = memberFee (drop from text);
         size = memberSize (drop from text);
@@ -165,7 +163,7 @@ module _ (text : List ℕ) (from : ℕ) where
 
   pub member-malformed : memberAt text from ≡ member.Malformed → isMember (drop from text) ≡ false
   unfolding memberAt
-  member-malformed h = second (isMember (drop from text)) h (λ e. let z : _≡_ {A = ℕ} 0 1 = cc in omega arith) .0
+  member-malformed h = cond-second (isMember (drop from text)) h (λ e. let z : _≡_ {A = ℕ} 0 1 = cc in omega arith) .0
 
 -- ---- the members: i of them are in the lists, and the next starts at `at`
 
@@ -267,22 +265,22 @@ module _ (text : List ℕ) where
 
   pub read-malformed : firstOf text ≡ count.Malformed → read text ≡ refused 13
   unfolding firstOf read
-  read-malformed h = rw (second isFirst h (go above) .0)
+  read-malformed h = rw (cond-second isFirst h (go above) .0)
     where
-      go : (b : Bool) → pick b count.TooMany counted ≡ count.Malformed → ⊥
+      go : (b : Bool) → cond b count.TooMany counted ≡ count.Malformed → ⊥
       go true e = let z : _≡_ {A = ℕ} 0 1 = cc in omega arith
       go false e = let z : _≡_ {A = ℕ} 0 1 = cc in omega arith
 
   -- a first line that is of its form, with a number above 64 or not
   record Whole (f : First) : Type 0 where
     form : isFirst ≡ true
-    says : pick above count.TooMany counted ≡ f
+    says : cond above count.TooMany counted ≡ f
     ends : length (before 10 text) < length text
 
   whole : {f : First} → firstOf text ≡ f → (count.Malformed ≡ f → ⊥) → Whole f
   unfolding firstOf
   whole h n =
-      let p = first isFirst h n in
+      let p = cond-first isFirst h n in
       record { form = p .0; says = p .1; ends = field-inside nKey text (and-both (isField nKey text) (isNumber (numberOf (valueOf nKey text))) (p .0) .0) }
 
   whole-many : firstOf text ≡ count.TooMany → Whole count.TooMany
@@ -292,7 +290,7 @@ module _ (text : List ℕ) where
   unfolding read
   read-many h =
       let w = whole-many h in
-      let b = first above (w .says) (λ e. let z : _≡_ {A = ℕ} 0 1 = cc in omega arith) in
+      let b = cond-first above (w .says) (λ e. let z : _≡_ {A = ℕ} 0 1 = cc in omega arith) in
       rw (w .form, b .0)
 
   pub record Counted (l : FirstLine) : Type 0 where
@@ -306,7 +304,7 @@ module _ (text : List ℕ) where
   unfolding read
   read-count l h =
       let w = whole h (λ e. let z : _≡_ {A = ℕ} 0 1 = cc in omega arith) in
-      let b = second above (w .says) (λ e. let z : _≡_ {A = ℕ} 0 1 = cc in omega arith) in
+      let b = cond-second above (w .says) (λ e. let z : _≡_ {A = ℕ} 0 1 = cc in omega arith) in
       let q : record { n = numberIn (numberOf (valueOf nKey text)); next = nextLine text 0 } ≡ l = cc in
       let n : numberIn (numberOf (valueOf nKey text)) ≡ l .n = ap (λ (t : FirstLine). t .n) q in
       let k : nextLine text 0 ≡ l .next = ap (λ (t : FirstLine). t .next) q in

@@ -1,7 +1,7 @@
 -- For readers: a number of the input, and a fee, has one spelling; and what a text that is too long is read as shows at its start. No
 -- proof of a function cites these. Assumes nothing.
 use mathlib.Core.Path.{_≡_, refl, sym, ap, ap₂, subst, _∙_}
-use mathlib.Core.Bool.{Bool, true, false, not, _&&_, _||_, or-false, or-true}
+use mathlib.Core.Bool.{Bool, true, false, cond, not, _&&_, _||_, or-false, or-true}
 use mathlib.Core.Logic.{_⊎_, inl, inr, ⊎-elim}
 use mathlib.Core.List.{List, [], _∷_, _++_}
 use Prim.Native.Nat.{ℕ, _+_, _-_, _*_, _≤_, _<_}
@@ -10,10 +10,9 @@ use lib.Dec.{eqb, ltb, leb}
 use lib.IntN.{ℤ, pos, negsuc}
 use lib.ListN.{length, length-append}
 use borrow.Author.Tests.{lt-ltb, leb-true, ltb-true, eqb-true, eqb-false, not-true}
-use Rattle.feefrac.specs.Rate.{pick}
-use Rattle.txset.specs.Lists.{allOf}
-use Rattle.txset.proofs.Below.{clash, lt-or-ge}
-use Rattle.txset.proofs.Bools.{and-both}
+use Rattle.lists.specs.Lists.{allOf}
+use Rattle.lists.proofs.Bools.{clash, and-both, cond-first}
+use Rattle.lists.proofs.Numbers.{lt-or-ge}
 use Rattle.cluster_reader.specs.declared.numerals.Number.{Number}
 use Rattle.cluster_reader.specs.declared.numerals.Number.the-variants.{Value, Malformed}
 use Rattle.cluster_reader.specs.declared.numerals.Fee.the-variants.{Sats}
@@ -24,7 +23,6 @@ use Rattle.cluster_reader.specs.Lines.{before, longestText}
 use Rattle.cluster_reader.specs.Reading.{read}
 use Rattle.cluster_reader.specs.Steps.{hasEnd, firstOf}
 use Rattle.cluster_reader.specs.Calls.{Decided}
-use Rattle.cluster_reader.proofs.Picks.{first}
 use Rattle.cluster_reader.proofs.Reading.{read-count, first-goes-on, many-decided, malformed-decided}
 use Rattle.cluster_reader.proofs.Full.{count-full}
 
@@ -104,8 +102,8 @@ plain-unique (x ∷ ds) (y ∷ es) p q e =
 pub number-unique : (ds es : List ℕ) (v : ℕ) → numberOf ds ≡ Value v → numberOf es ≡ Value v → ds ≡ es
 unfolding numberOf
 number-unique ds es v p q =
-    let a = first (isPlain ds && leb (valueFrom 0 ds) 18446744073709551615) p (λ e. let z : _≡_ {A = ℕ} 0 1 = cc in omega arith) in
-    let b = first (isPlain es && leb (valueFrom 0 es) 18446744073709551615) q (λ e. let z : _≡_ {A = ℕ} 0 1 = cc in omega arith) in
+    let a = cond-first (isPlain ds && leb (valueFrom 0 ds) 18446744073709551615) p (λ e. let z : _≡_ {A = ℕ} 0 1 = cc in omega arith) in
+    let b = cond-first (isPlain es && leb (valueFrom 0 es) 18446744073709551615) q (λ e. let z : _≡_ {A = ℕ} 0 1 = cc in omega arith) in
     let same : valueFrom 0 ds ≡ valueFrom 0 es = cc in
     plain-unique ds es (and-both (isPlain ds) _ (a .0) .0) (and-both (isPlain es) _ (b .0) .0) same
 
@@ -131,16 +129,16 @@ spelt (b ∷ bs) z e = go (eqb b 45) refl e
     below : (n : Number) → numberOf bs ≡ n → b ≡ 45 → negative n ≡ Sats z → Minus (b ∷ bs) z
     below Malformed r q e = let n : _≡_ {A = ℕ} 0 1 = cc in absurd (omega arith)
     below (Value v) r q e =
-        let p = first (ltb 0 v && leb v 9223372036854775808) e (λ e. let n : _≡_ {A = ℕ} 0 1 = cc in omega arith) in
+        let p = cond-first (ltb 0 v && leb v 9223372036854775808) e (λ e. let n : _≡_ {A = ℕ} 0 1 = cc in omega arith) in
         record { rest = bs; size = v; is = ap (λ (x : ℕ). x ∷ bs) q; read = r; some = ltb-true 0 v (and-both (ltb 0 v) _ (p .0) .0); gives = cc }
 
     above : (n : Number) → numberOf (b ∷ bs) ≡ n → positive n ≡ Sats z → NoMinus (b ∷ bs) z
     above Malformed r e = let n : _≡_ {A = ℕ} 0 1 = cc in absurd (omega arith)
     above (Value v) r e =
-        let p = first (leb v 9223372036854775807) e (λ e. let n : _≡_ {A = ℕ} 0 1 = cc in omega arith) in
+        let p = cond-first (leb v 9223372036854775807) e (λ e. let n : _≡_ {A = ℕ} 0 1 = cc in omega arith) in
         record { size = v; read = r; gives = cc }
 
-    go : (t : Bool) → eqb b 45 ≡ t → pick t (negative (numberOf bs)) (positive (numberOf (b ∷ bs))) ≡ Sats z → Minus (b ∷ bs) z ⊎ NoMinus (b ∷ bs) z
+    go : (t : Bool) → eqb b 45 ≡ t → cond t (negative (numberOf bs)) (positive (numberOf (b ∷ bs))) ≡ Sats z → Minus (b ∷ bs) z ⊎ NoMinus (b ∷ bs) z
     go true q e = inl (below (numberOf bs) refl (eqb-true b 45 q) e)
     go false q e = inr (above (numberOf (b ∷ bs)) refl e)
 

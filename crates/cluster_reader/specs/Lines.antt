@@ -1,16 +1,15 @@
 -- Document 01, "The cluster program": its lines. Assumes nothing.
 use Prim.Native.Nat.{ℕ, suc, _+_, _*_}
-use mathlib.Core.Bool.{Bool, true, false, _&&_}
+use mathlib.Core.Bool.{Bool, true, false, cond, _&&_}
 use mathlib.Core.List.{List, [], _∷_}
 use lib.ListN.{length, drop}
 use lib.Dec.{eqb, ltb, leb}
-use Rattle.feefrac.specs.Rate.{pick}
 use Rattle.txset.specs.Sets.{positions}
 
 -- what stands before the first byte b, and behind it
 unfoldable pub before : ℕ → List ℕ → List ℕ
 before b [] = []
-before b (x ∷ xs) = pick (eqb x b) [] (x ∷ before b xs)
+before b (x ∷ xs) = cond (eqb x b) [] (x ∷ before b xs)
 
 unfoldable pub behind : ℕ → List ℕ → List ℕ
 behind b xs = drop (suc (length (before b xs))) xs

@@ -1,11 +1,10 @@
 -- Document 01, "The cluster program": the decimals of its input, as lists of bytes. Assumes nothing.
 use Prim.Native.Nat.{ℕ, _+_, _-_, _*_}
-use mathlib.Core.Bool.{Bool, true, false, not, _&&_, _||_}
+use mathlib.Core.Bool.{Bool, true, false, cond, not, _&&_, _||_}
 use mathlib.Core.List.{List, [], _∷_}
 use lib.Dec.{eqb, ltb, leb}
 use lib.IntN.{pos, negsuc}
-use Rattle.feefrac.specs.Rate.{pick}
-use Rattle.txset.specs.Lists.{allOf}
+use Rattle.lists.specs.Lists.{allOf}
 use Rattle.cluster_reader.specs.declared.numerals.Number.{Number}
 use Rattle.cluster_reader.specs.declared.numerals.Number.the-variants.{Value, Malformed}
 use Rattle.cluster_reader.specs.declared.numerals.Fee.{Fee}
@@ -31,17 +30,17 @@ isPlain (d ∷ ds) = allOf isDigit (d ∷ ds) && (not (eqb d 48) || isNil ds)
 
 -- "others u64"
 unfoldable pub numberOf : List ℕ → Number
-numberOf ds = pick (isPlain ds && leb (valueFrom 0 ds) 18446744073709551615) (Value (valueFrom 0 ds)) Malformed
+numberOf ds = cond (isPlain ds && leb (valueFrom 0 ds) 18446744073709551615) (Value (valueFrom 0 ds)) Malformed
 
 -- "`-` only on a non-zero fee; fee i64"
 abbrev pub negative : Number → Fee
 negative Malformed = Wrong
-negative (Value v) = pick (ltb 0 v && leb v 9223372036854775808) (Sats (negsuc (v - 1))) Wrong
+negative (Value v) = cond (ltb 0 v && leb v 9223372036854775808) (Sats (negsuc (v - 1))) Wrong
 
 abbrev pub positive : Number → Fee
 positive Malformed = Wrong
-positive (Value v) = pick (leb v 9223372036854775807) (Sats (pos v)) Wrong
+positive (Value v) = cond (leb v 9223372036854775807) (Sats (pos v)) Wrong
 
 unfoldable pub feeOf : List ℕ → Fee
 feeOf [] = Wrong
-feeOf (b ∷ bs) = pick (eqb b 45) (negative (numberOf bs)) (positive (numberOf (b ∷ bs)))
+feeOf (b ∷ bs) = cond (eqb b 45) (negative (numberOf bs)) (positive (numberOf (b ∷ bs)))

@@ -1,13 +1,12 @@
 -- Document 01, "The cluster program": what it reads. "`n=`, then for each position `fee=`, `size=`, `parents=` (commas, may be empty,
 -- repeats count once)". Assumes nothing.
 use Prim.Native.Nat.{ℕ, zero, suc, _^_}
-use mathlib.Core.Bool.{Bool, true, false, _&&_}
+use mathlib.Core.Bool.{Bool, true, false, cond, _&&_}
 use mathlib.Core.List.{List, [], _∷_, _++_}
 use lib.Dec.{eqb, ltb}
 use lib.Bits.{bitOr}
 use lib.IntN.{ℤ, pos}
-use Rattle.feefrac.specs.Rate.{pick}
-use Rattle.txset.specs.Lists.{allOf}
+use Rattle.lists.specs.Lists.{allOf}
 use Rattle.txset.specs.Sets.{positions}
 use Rattle.cluster_reader.specs.declared.numerals.Number.{Number}
 use Rattle.cluster_reader.specs.declared.numerals.Number.the-variants.{Value, Malformed}
@@ -49,7 +48,7 @@ feeIn Wrong = pos 0
 -- a list cut at its commas (byte 44)
 unfoldable pub partsFrom : List ℕ → List ℕ → List (List ℕ)
 partsFrom part [] = part ∷ []
-partsFrom part (b ∷ bs) = pick (eqb b 44) (part ∷ partsFrom [] bs) (partsFrom (part ++ (b ∷ [])) bs)
+partsFrom part (b ∷ bs) = cond (eqb b 44) (part ∷ partsFrom [] bs) (partsFrom (part ++ (b ∷ [])) bs)
 
 -- "commas, may be empty": the parts of a list that is not empty
 unfoldable pub parts : List ℕ → List (List ℕ)
@@ -62,7 +61,7 @@ areNumbers ls = allOf (λ l. isNumber (numberOf l)) ls
 -- "repeats count once": the set of the positions named, as a word; a position that no set can hold is left out
 unfoldable pub wordOf : ℕ → List (List ℕ) → ℕ
 wordOf w [] = w
-wordOf w (l ∷ ls) = wordOf (pick (ltb (numberIn (numberOf l)) positions) (bitOr w (2 ^ numberIn (numberOf l))) w) ls
+wordOf w (l ∷ ls) = wordOf (cond (ltb (numberIn (numberOf l)) positions) (bitOr w (2 ^ numberIn (numberOf l))) w) ls
 
 -- whether a text starts with the three lines of a member
 unfoldable pub isMember : List ℕ → Bool
@@ -91,15 +90,15 @@ pub data Read : Type 0 where
 
 -- k members more, "anything after the last line is 13"
 unfoldable pub members : ℕ → List ℕ → List ℤ → List ℕ → List ℕ → Read
-members zero xs fs ss ps = pick (isNil xs) (cluster fs ss ps) (refused 13)
+members zero xs fs ss ps = cond (isNil xs) (cluster fs ss ps) (refused 13)
 members (suc k) xs fs ss ps =
-    pick (isMember xs)
+    cond (isMember xs)
     (members k (nextMember xs) (fs ++ (memberFee xs ∷ [])) (ss ++ (memberSize xs ∷ [])) (ps ++ (memberParents xs ∷ [])))
     (refused 13)
 
 -- "An n above 64 gives 2 without reading on."
 unfoldable pub read : List ℕ → Read
 read xs =
-    pick (isField nKey xs && isNumber (numberOf (valueOf nKey xs)))
-    (pick (ltb positions (numberIn (numberOf (valueOf nKey xs)))) (refused 2) (members (numberIn (numberOf (valueOf nKey xs))) (behind 10 xs) [] [] []))
+    cond (isField nKey xs && isNumber (numberOf (valueOf nKey xs)))
+    (cond (ltb positions (numberIn (numberOf (valueOf nKey xs)))) (refused 2) (members (numberIn (numberOf (valueOf nKey xs))) (behind 10 xs) [] [] []))
     (refused 13)

@@ -1,11 +1,10 @@
 -- What the crate's own functions answer, at a place of the text. Of these only `hasEnd` and `firstOf` are cited by a public contract
 -- (specs/Calls.antt). Assumes nothing.
 use Prim.Native.Nat.{ℕ, _+_}
-use mathlib.Core.Bool.{Bool, _&&_, _||_}
+use mathlib.Core.Bool.{Bool, cond, _&&_, _||_}
 use mathlib.Core.List.{List}
 use lib.Dec.{ltb}
 use lib.ListN.{length, drop}
-use Rattle.feefrac.specs.Rate.{pick}
 use Rattle.txset.specs.Sets.{positions}
 use Rattle.cluster_reader.specs.declared.lines.Line.{Line}
 use Rattle.cluster_reader.specs.declared.lines.Line.the-variants as line
@@ -27,7 +26,7 @@ placeOf b text from = from + length (before b (drop from text))
 
 -- where the line that starts there ends, and where the one behind it starts
 unfoldable pub lineAt : List ℕ → ℕ → Line
-lineAt text from = pick (isLine (drop from text)) (line.Ends (placeOf 10 text from)) line.Malformed
+lineAt text from = cond (isLine (drop from text)) (line.Ends (placeOf 10 text from)) line.Malformed
 
 abbrev pub nextLine : List ℕ → ℕ → ℕ
 nextLine text from = placeOf 10 text from + 1
@@ -35,7 +34,7 @@ nextLine text from = placeOf 10 text from + 1
 -- where the value of the line with this key stands
 unfoldable pub fieldAt : List ℕ → List ℕ → ℕ → Value
 fieldAt key text from =
-    pick (isField key (drop from text)) (value.Between (record { start = from + length key; end = placeOf 10 text from })) value.Malformed
+    cond (isField key (drop from text)) (value.Between (record { start = from + length key; end = placeOf 10 text from })) value.Malformed
 
 -- whether the first line is whole, or longer than a line may be
 abbrev pub hasEnd : List ℕ → Bool
@@ -44,19 +43,19 @@ hasEnd text = ltb (length (before 10 text)) (length text) || ltb 1024 (length te
 -- what the first line says
 unfoldable pub firstOf : List ℕ → First
 firstOf text =
-    pick (isField nKey text && isNumber (numberOf (valueOf nKey text)))
-    (pick (ltb positions (numberIn (numberOf (valueOf nKey text)))) first.TooMany
+    cond (isField nKey text && isNumber (numberOf (valueOf nKey text)))
+    (cond (ltb positions (numberIn (numberOf (valueOf nKey text)))) first.TooMany
     (first.Count (record { n = numberIn (numberOf (valueOf nKey text)); next = nextLine text 0 })))
     first.Malformed
 
 -- the set that a list of positions names
 unfoldable pub parentsIn : List ℕ → Parents
-parentsIn xs = pick (areNumbers (parts xs)) (named.Set (record { word = wordOf 0 (parts xs) })) named.Malformed
+parentsIn xs = cond (areNumbers (parts xs)) (named.Set (record { word = wordOf 0 (parts xs) })) named.Malformed
 
 -- the member whose lines start there
 unfoldable pub memberAt : List ℕ → ℕ → Member
 memberAt text from =
-    pick (isMember (drop from text))
+    cond (isMember (drop from text))
     (member.Read
     (record {
       fee = memberFee (drop from text);

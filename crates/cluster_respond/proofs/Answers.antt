@@ -20,7 +20,8 @@ use Rattle.cluster_reader.specs.Reading.{Read, refused, cluster, read}
 use Rattle.cluster_reader.specs.Calls.{inputOf, feesAfter, sizesAfter, parentsAfter}
 use Rattle.cluster_reader.proofs.Lengths.{read-whole}
 use Rattle.cluster_writer.specs.Writing.{refusalText, successText}
-use Rattle.cluster_writer.specs.Calls.{printed, few, successPrinted, successRoom}
+use Rattle.cluster_writer.specs.Calls.{few, successPrinted, successRoom}
+use Rattle.lists.specs.Lists.{overwrite}
 use Rattle.output_order.specs.Output.{orderLengths}
 use Rattle.cluster_respond.specs.Program.{clusterText, textOf, response}
 
@@ -39,8 +40,8 @@ pub part-long : {A : Type 0} {xs room : List A} {n : ℕ} → Starts xs room n �
 part-long h = h .count ∙ sym (ap length (h .is))
 
 -- what is printed as one text is printed as its equal
-pub prints : {t u : List ℕ} {r : ℕ} {new : List ℕ} (old : List ℕ) → t ≡ u → r ≡ length t → new ≡ printed t old → (r ≡ length u) × (new ≡ printed u old)
-prints old e p q = (p ∙ ap length e, q ∙ ap (λ (x : List ℕ). printed x old) e)
+pub prints : {t u : List ℕ} {r : ℕ} {new : List ℕ} (old : List ℕ) → t ≡ u → r ≡ length t → new ≡ overwrite t old → (r ≡ length u) × (new ≡ overwrite u old)
+prints old e p q = (p ∙ ap length e, q ∙ ap (λ (x : List ℕ). overwrite x old) e)
 
 -- ---- linearize has answered
 
@@ -79,12 +80,12 @@ module _
     ordered new o =
         starts (linearOrder fs ss ps) (drop (length (linearOrder fs ss ps)) room)
         (ap (λ (x : Reply). x .written) (is ∙ sym (succeeds refusal (success (length (linearOrder fs ss ps))) none refl)))
-        (o ∙ sym (writes room (linearOrder fs ss ps ++ drop (length (linearOrder fs ss ps)) room) none refl))
+        (o ∙ sym (writes room (overwrite (linearOrder fs ss ps) room) none refl))
 
     -- it is printed with the lengths of its chunks
     pub success-text : (order lens out out' : List ℕ) (k : ℕ) → order ≡ linearOrder fs ss ps → lens ≡ orderLengths fs ss order
         → length order ≤ positions → length lens ≤ positions → k ≡ successPrinted fs ss order lens → out' ≡ successRoom fs ss order lens out
-        → (k ≡ length (clusterText fs ss ps)) × (out' ≡ printed (clusterText fs ss ps) out)
+        → (k ≡ length (clusterText fs ss ps)) × (out' ≡ overwrite (clusterText fs ss ps) out)
     unfolding clusterText successPrinted successRoom few
     success-text order lens out out' k o l x y p q =
         let fit : (leb (length order) positions && leb (length lens) positions) ≡ true =

@@ -3,7 +3,8 @@ use Prim.Native.Nat.{ℕ}
 use mathlib.Core.List.{List, map}
 use lib.Dec.{eqb}
 use lib.IntN.{ℤ}
-use Rattle.feefrac.specs.Rate.{pick, rateAt}
+use Rattle.feefrac.specs.Rate.{rateAt}
+use mathlib.Core.Bool.{cond}
 use Rattle.refusals.specs.Refusals.{answerOf}
 use Rattle.chunking.specs.Chunks.{chunkLengths}
 use Rattle.linearize.specs.Linearize.{refusals, linearOrder}
@@ -14,7 +15,7 @@ use Rattle.cluster_writer.specs.Writing.{refusalText, successText}
 -- many, as the list of sizes is.)
 unfoldable pub clusterText : List ℤ → List ℕ → List ℕ → List ℕ
 clusterText fs ss ps =
-    pick (eqb (answerOf (refusals fs ss ps ss)) 0)
+    cond (eqb (answerOf (refusals fs ss ps ss)) 0)
     (successText fs ss (linearOrder fs ss ps) (chunkLengths (map (rateAt fs ss) (linearOrder fs ss ps))))
     (refusalText (answerOf (refusals fs ss ps ss)))
 

@@ -3,14 +3,14 @@ ghost use mathlib.Core.Path.{_≡_};
 ghost use Prim.Native.Nat.{_≤_};
 ghost use lib.ListN.{length};
 ghost use Rattle.txset.specs.Sets.{positions};
-ghost use Rattle.cluster_writer.specs.Calls.{printed};
+ghost use Rattle.lists.specs.Lists.{overwrite};
 ghost use Rattle.cluster_respond.specs.Program.{response, clusterText};
 use cluster_reader::Input;
 
 // Puts what is printed for an input at the start of `out`, and answers how many bytes that is.
 pub fn respond(text: &[u8], out: &mut [u8; 8192]) -> usize
     ensures { λ r. ⌜ r ≡ length (response (now (text .entry))) ⌝ }
-    ensures { λ _. ⌜ now (out .exit) ≡ printed (response (now (text .entry))) (now (out .entry)) ⌝ }
+    ensures { λ _. ⌜ now (out .exit) ≡ overwrite (response (now (text .entry))) (now (out .entry)) ⌝ }
 {
     let mut fees = [0i64; 64];
     let mut sizes = [0u64; 64];
@@ -26,7 +26,7 @@ pub fn respond(text: &[u8], out: &mut [u8; 8192]) -> usize
 fn respond_cluster(fees: &[i64], sizes: &[u64], parents: &[u64], out: &mut [u8; 8192]) -> usize
     requires { ⌜ (length (now fees) ≤ positions) × (length (now sizes) ≡ length (now fees)) ⌝ }
     ensures { λ r. ⌜ r ≡ length (clusterText (now (fees .entry)) (now (sizes .entry)) (now (parents .entry))) ⌝ }
-    ensures { λ _. ⌜ now (out .exit) ≡ printed (clusterText (now (fees .entry)) (now (sizes .entry)) (now (parents .entry))) (now (out .entry)) ⌝ }
+    ensures { λ _. ⌜ now (out .exit) ≡ overwrite (clusterText (now (fees .entry)) (now (sizes .entry)) (now (parents .entry))) (now (out .entry)) ⌝ }
 {
     let mut order = [0usize; 64];
     let reply = linearize::linearize(fees, sizes, parents, &mut order);

@@ -8,7 +8,7 @@ use native.Mathlib.Numerals.{add-one}
 use native.Mathlib.Omega.{arith}
 use lib.ListN.{length, take, drop, set, getD, length-append, length-drop, take-append-drop}
 use lib.Seq.{drop-cons, set-split, take-at, drop-at, drop-drop, length-take-le}
-use Rattle.cluster_writer.specs.Calls.{printed}
+use Rattle.lists.specs.Lists.{overwrite}
 use Rattle.cluster_writer.specs.Steps.{placed, Room, Wrote}
 
 -- ---- one text behind another
@@ -96,7 +96,7 @@ pub done : {all : List ℕ} {at from : ℕ} {new old : List ℕ} → Left [] all
 done {at = at} {new = new} l = last l (nothing at new)
 
 -- a text at the start of a room
-pub at-start : {text old new : List ℕ} {end : ℕ} → Wrote text 0 old new end → (end ≡ length text) × (new ≡ printed text old)
+pub at-start : {text old new : List ℕ} {end : ℕ} → Wrote text 0 old new end → (end ≡ length text) × (new ≡ overwrite text old)
 at-start {text} {old} w = (w .ends ∙ zero-add (length text), w .are ∙ ap (λ (n : ℕ). text ++ drop n old) (zero-add (length text)))
 
 -- ---- a text of two pieces, and one of three: there is room for each in turn, and all were written

@@ -1,6 +1,6 @@
 -- The digits that the kit writes are those of the document, and there are at most twenty. Assumes nothing.
 use mathlib.Core.Path.{_≡_, refl}
-use mathlib.Core.Bool.{Bool, true, false}
+use mathlib.Core.Bool.{Bool, true, false, cond}
 use mathlib.Core.List.{[], _∷_, _++_}
 use Prim.Native.Nat.{ℕ, zero, suc, _+_, _-_, _*_, _/_, _%_, _^_, _≤_, _<_}
 use native.Mathlib.Nat.{pow-suc, one-le-pow, pow-le-pow-right}
@@ -9,7 +9,6 @@ use lib.Dec.{ltb, leb}
 use lib.ListN.{length, length-append}
 use borrow.Author.Tests.{lt-ltb, le-ltb, leb-true, leb-false}
 use Rattle.io.specs.Digits.{digits, Fewest}
-use Rattle.feefrac.specs.Rate.{pick}
 use Rattle.cluster_writer.specs.Writing.{decimalFrom, decimal}
 
 last-digit : (n : ℕ) → ltb (n % 10) 10 ≡ true
@@ -58,7 +57,7 @@ unfolding decimalFrom
 length-from zero n = omega arith
 length-from (suc fuel) n = go (ltb n 10) (length-from fuel (n / 10))
   where
-    go : (b : Bool) → length (decimalFrom fuel (n / 10)) ≤ fuel → length (pick b [] (decimalFrom fuel (n / 10)) ++ ((48 + n % 10) ∷ [])) ≤ suc fuel
+    go : (b : Bool) → length (decimalFrom fuel (n / 10)) ≤ fuel → length (cond b [] (decimalFrom fuel (n / 10)) ++ ((48 + n % 10) ∷ [])) ≤ suc fuel
     go true h = omega arith
     go false h = omega (arith, length-append (decimalFrom fuel (n / 10)) ((48 + n % 10) ∷ []))
 

@@ -4,7 +4,7 @@ use mathlib.Core.Path.{_≡_}
 use mathlib.Core.List.{List, _∷_, _++_}
 use lib.ListN.{length, take, drop}
 use lib.Dec.{eqb}
-use Rattle.feefrac.specs.Rate.{pick}
+use mathlib.Core.Bool.{cond}
 use Rattle.cluster_writer.specs.Writing.{decimal}
 
 -- a text in a room from a place on, the rest of the room as it was
@@ -22,7 +22,7 @@ pub record Wrote (text : List ℕ) (at : ℕ) (old new : List ℕ) (end : ℕ) :
 
 -- the k-th of some numbers with commas between them
 unfoldable pub item : ℕ → ℕ → List ℕ
-item k n = pick (eqb k 0) (decimal n) (44 ∷ decimal n)
+item k n = cond (eqb k 0) (decimal n) (44 ∷ decimal n)
 
 -- a quotient held at 2^63, one above the largest i64
 abbrev pub held : ℕ → ℕ

@@ -7,13 +7,14 @@ use lib.Dec.{eqb, ltb}
 use lib.IntN.{ℤ, pos, negsuc, _*ℤ_}
 use lib.Signed.{quotZ}
 use Rattle.feefrac.specs.declared.FeeFrac.{FeeFrac}
-use Rattle.feefrac.specs.Rate.{pick, heldFee}
+use Rattle.feefrac.specs.Rate.{heldFee}
+use mathlib.Core.Bool.{cond}
 use Rattle.feeset.specs.Total.{total}
 
 -- a number in decimal: its last digit behind the digits of its tenth. (`fuel` is the most digits that there can be: 20 for a u64)
 unfoldable pub decimalFrom : ℕ → ℕ → List ℕ
 decimalFrom zero n = []
-decimalFrom (suc fuel) n = pick (ltb n 10) [] (decimalFrom fuel (n / 10)) ++ ((48 + n % 10) ∷ [])
+decimalFrom (suc fuel) n = cond (ltb n 10) [] (decimalFrom fuel (n / 10)) ++ ((48 + n % 10) ∷ [])
 
 unfoldable pub decimal : ℕ → List ℕ
 decimal n = decimalFrom 20 n
@@ -51,7 +52,7 @@ commas (x ∷ y ∷ xs) = decimal x ++ (44 ∷ commas (y ∷ xs))
 
 -- "fee × 4,000 / size rounded towards zero, 0 for size 0, held to the i64 range"
 unfoldable pub shownRate : FeeFrac → ℤ
-shownRate r = pick (eqb (r .size) 0) (pos 0) (heldFee (quotZ (r .fee *ℤ pos 4000) (pos (r .size))))
+shownRate r = cond (eqb (r .size) 0) (pos 0) (heldFee (quotZ (r .fee *ℤ pos 4000) (pos (r .size))))
 
 -- a chunk's two lines
 unfoldable pub chunkLines : ℕ → FeeFrac → List ℕ

@@ -5,7 +5,8 @@ ghost use lib.ListN.{length};
 ghost use Rattle.feeset.specs.Total.{total};
 ghost use Rattle.cluster_writer.specs.Writing.{decimal as Text·decimal, signed as Text·signed, textLine, orderKey, rateKey, commas};
 ghost use Rattle.cluster_writer.specs.Writing.{chunkLines, allChunkLines, refusalText, shownRate};
-ghost use Rattle.cluster_writer.specs.Calls.{printed, successPrinted, successRoom};
+ghost use Rattle.cluster_writer.specs.Calls.{successPrinted, successRoom};
+ghost use Rattle.lists.specs.Lists.{overwrite};
 ghost use Rattle.cluster_writer.specs.Steps.{Room, Wrote, item, held};
 use feefrac::FeeFrac;
 use txset::POSITIONS;
@@ -13,7 +14,7 @@ use txset::POSITIONS;
 // The answer line alone.
 pub fn write_refusal(number: u64, out: &mut [u8; 8192]) -> usize
     ensures { λ r. ⌜ r ≡ length (refusalText number) ⌝ }
-    ensures { λ _. ⌜ now (out .exit) ≡ printed (refusalText number) (now (out .entry)) ⌝ }
+    ensures { λ _. ⌜ now (out .exit) ≡ overwrite (refusalText number) (now (out .entry)) ⌝ }
 {
     number_line(b"answer=", number, out, 0)
 }

@@ -11,11 +11,10 @@ use lib.ListN.{length, take, replicate}
 use lib.Seq.{take-length, take-all, length-take-le, getD-take}
 use borrow.Author.Tests.{lt-ltb, le-ltb, eq-eqb, ne-eqb, eqb-true}
 use Rattle.txset.specs.declared.TxSet.{TxSet}
-use Rattle.txset.specs.Below.{anyFrom}
+use Rattle.lists.specs.Below.{anyFrom}
 use Rattle.txset.specs.Sets.{positions, isPosition, mem, setAt, putAt, Joined}
-use Rattle.txset.proofs.Below.{by-position, below-here, below-else}
+use Rattle.lists.proofs.Numbers.{by-number, below-here, below-else, flip}
 use Rattle.txset.proofs.Sets.{mem-position, length-put, put-at, put-else, at-zeros}
-use Rattle.txset.proofs.Lists.{flip}
 use Rattle.txset.proofs.Joins.{joined-at, turned-more}
 use Rattle.depgraph.specs.declared.DepGraph.{DepGraph}
 use Rattle.depgraph.specs.Closed.{Closed}
@@ -69,7 +68,7 @@ link-turn f i own single {up} {down} {up'} {down'} l has-own has-i put join h =
       ups = length-put up i own ∙ h .ups;
       downs = join .same ∙ h .downs;
       above = λ j a.
-          by-position (λ j. mem (setAt (putAt up i own) j) a ≡ upTo (i + 1) f j a) i
+          by-number (λ j. mem (setAt (putAt up i own) j) a ≡ upTo (i + 1) f j a) i
           (put-at up i own (omega (arith, h .ups)) a ∙ has-own a ∙ ap (λ (b : Bool). b && f i a) (sym (below-here i)))
           (λ j n. put-else up i own j a n ∙ h .above j a ∙ ap (λ (b : Bool). b && f j a) (sym (below-else j i n)))
           j;
@@ -145,7 +144,7 @@ withOwn i f j a = f j a || (ltb j i && eqb j a)
 
 own-more : (i j a : ℕ) → (ltb j i && eqb j a || eqb j i && eqb a i) ≡ (ltb j (i + 1) && eqb j a)
 own-more i j a =
-    by-position (λ j. (ltb j i && eqb j a || eqb j i && eqb a i) ≡ (ltb j (i + 1) && eqb j a)) i
+    by-number (λ j. (ltb j i && eqb j a || eqb j i && eqb a i) ≡ (ltb j (i + 1) && eqb j a)) i
     (rw (le-ltb i i (omega arith), eq-eqb i i refl, below-here i) (flip a i))
     (λ j n. rw (ne-eqb j i (λ e. n (sym e)), below-else j i n) (or-false (ltb j i && eqb j a)))
     j
@@ -161,7 +160,7 @@ own-put {i} u {old} l at has put =
     rw put (record {
       same = length-put old i u;
       has = λ m j a.
-          by-position (λ j. mem (setAt (putAt old i u) j) a ≡ (mem (setAt old j) a || (eqb j i && eqb a i))) i
+          by-number (λ j. mem (setAt (putAt old i u) j) a ≡ (mem (setAt old j) a || (eqb j i && eqb a i))) i
           (put-at old i u m a ∙ has a
           ∙ ap₂ (λ (t : TxSet) (b : Bool). mem t a || b) at
           (asked (isPosition a) (eqb a i) (λ e. lt-ltb a positions (let z : a ≡ i = eqb-true a i e in omega arith))

@@ -5,8 +5,8 @@ use mathlib.Core.Logic.{⊎-elim}
 use Prim.Native.Nat.{ℕ, zero, suc, _+_, _≤_, _<_}
 use native.Mathlib.Nat.{zero-add, eq-or-lt-of-le}
 use native.Mathlib.Omega.{arith}
-use Rattle.txset.specs.Below.{bit, anyFrom, countFrom}
-use Rattle.txset.proofs.Below.{any-split}
+use Rattle.lists.specs.Below.{bit, anyFrom, countFrom}
+use Rattle.lists.proofs.Below.{any-split}
 
 -- one position more
 pub any-more : (f : ℕ → Bool) (k : ℕ) → anyFrom f (k + 1) 0 ≡ (anyFrom f k 0 || f k)

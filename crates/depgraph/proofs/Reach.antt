@@ -8,8 +8,8 @@ use lib.Dec.{eqb, ltb}
 use lib.ListN.{length}
 use borrow.Author.Tests.{lt-ltb, ltb-true}
 use Rattle.txset.specs.Sets.{mem, setAt}
-use Rattle.txset.proofs.Below.{clash, lt-or-ge}
-use Rattle.txset.proofs.Bools.{and-both, or-either}
+use Rattle.lists.proofs.Bools.{clash, and-both, or-either}
+use Rattle.lists.proofs.Numbers.{lt-or-ge}
 use Rattle.txset.proofs.Sets.{at-past}
 use Rattle.depgraph.specs.Graph.{isParent, reach, isAbove}
 

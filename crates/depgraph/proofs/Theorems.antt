@@ -10,9 +10,9 @@ use native.Mathlib.Omega.{arith}
 use lib.Dec.{eqb, ltb}
 use lib.ListN.{length}
 use borrow.Author.Tests.{lt-ltb, eq-eqb, ltb-true, eqb-true}
-use Rattle.txset.specs.Below.{countFrom, firstFrom}
-use Rattle.txset.proofs.Below.{clash, first-has, first-below, any-at}
-use Rattle.txset.proofs.Bools.{and-both, or-either}
+use Rattle.lists.specs.Below.{countFrom, firstFrom}
+use Rattle.lists.proofs.Bools.{clash, and-both, or-either}
+use Rattle.lists.proofs.Below.{first-has, first-below, any-at}
 use Rattle.txset.specs.Sets.{positions}
 use Rattle.txset.proofs.Words.{Fits}
 use Rattle.txset.proofs.Theorems.{sets-ext}

@@ -6,7 +6,7 @@ use mathlib.Core.Bool.{Bool, true, not, _&&_, _||_}
 use mathlib.Core.List.{List}
 use lib.ListN.{length}
 use lib.Dec.{eqb, ltb}
-use Rattle.txset.specs.Below.{anyFrom}
+use Rattle.lists.specs.Below.{anyFrom}
 use Rattle.txset.specs.Sets.{mem, setAt}
 
 -- "Parents of i; its own position and positions outside 0..n-1 are ignored."

@@ -4,4 +4,3 @@ pub mod Order
 pub mod Higher
 pub mod Lists
 pub mod Exact
-pub mod Picks

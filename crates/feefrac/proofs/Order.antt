@@ -1,6 +1,6 @@
 -- The order of two sizes and of two feerates: the order of feerates is that of two sums of products, whatever the signs. Assumes nothing.
 use mathlib.Core.Path.{_≡_, refl, sym, _∙_}
-use mathlib.Core.Bool.{Bool, true, false}
+use mathlib.Core.Bool.{Bool, true, false, cond}
 use Prim.Native.Nat.{ℕ, _+_, _*_, _≤_, _<_}
 use native.Mathlib.Nat.{zero-mul}
 use native.Mathlib.Omega.{arith}
@@ -10,7 +10,7 @@ use lib.Signed.{ltZ}
 use mir.Syntax.{w64}
 use mir.Val.{SFits, toZ}
 use borrow.Author.Tests.{lt-ltb, le-ltb, ltb-true, ltb-false}
-use Rattle.feefrac.specs.Rate.{pick, higher, rateOrder, sizeOrder, isGreater}
+use Rattle.feefrac.specs.Rate.{higher, rateOrder, sizeOrder, isGreater}
 use Rattle.feefrac.specs.Word.{Narrow}
 use Rattle.feefrac.specs.declared.FeeFrac.{FeeFrac}
 use Rattle.feefrac.specs.declared.Ordering.the-variants.{Less, Equal, Greater}
@@ -78,7 +78,7 @@ pub higher-greater : (a b : FeeFrac) → higher a b ≡ isGreater (rateOrder a b
 unfolding rateOrder
 higher-greater a b = picked (higher a b) (higher b a)
   where
-    picked : (s t : Bool) → s ≡ isGreater (pick s Greater (pick t Less Equal))
+    picked : (s t : Bool) → s ≡ isGreater (cond s Greater (cond t Less Equal))
     picked true t = refl
     picked false true = refl
     picked false false = refl

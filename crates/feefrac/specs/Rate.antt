@@ -1,7 +1,7 @@
 -- Document 01, module 1 (FeeFrac): what a fee over a size is, how two are summed, and how two compare.
 -- Everything above this crate speaks of feerates by these names alone. Assumes nothing.
 use Prim.Native.Nat.{ℕ, _+_, _-_, min}
-use mathlib.Core.Bool.{Bool, true, false}
+use mathlib.Core.Bool.{Bool, true, false, cond}
 use mathlib.Core.List.{List}
 use lib.Dec.{ltb}
 use lib.ListN.{getD}
@@ -10,11 +10,6 @@ use lib.Signed.{ltZ}
 use Rattle.feefrac.specs.declared.FeeFrac.{FeeFrac}
 use Rattle.feefrac.specs.declared.Ordering.{Ordering}
 use Rattle.feefrac.specs.declared.Ordering.the-variants.{Less, Equal, Greater}
-
--- the first where the test holds, else the second
-abbrev pub pick : {A : Type 0} → Bool → A → A → A
-pick true a b = a
-pick false a b = b
 
 -- "fee sums at the ends of i64": -2^63 is `negsuc (2^63 - 1)`
 abbrev pub heldFee : ℤ → ℤ
@@ -51,11 +46,11 @@ higher a b = ltZ (b .fee *ℤ pos (a .size)) (a .fee *ℤ pos (b .size))
 
 -- the three ways in which two feerates can stand: one is higher, the other is, or neither
 unfoldable pub rateOrder : FeeFrac → FeeFrac → Ordering
-rateOrder a b = pick (higher a b) Greater (pick (higher b a) Less Equal)
+rateOrder a b = cond (higher a b) Greater (cond (higher b a) Less Equal)
 
 -- how a number stands to another
 unfoldable pub sizeOrder : ℕ → ℕ → Ordering
-sizeOrder m n = pick (ltb n m) Greater (pick (ltb m n) Less Equal)
+sizeOrder m n = cond (ltb n m) Greater (cond (ltb m n) Less Equal)
 
 -- a second order decides where the first says nothing
 abbrev pub thenBy : Ordering → Ordering → Ordering

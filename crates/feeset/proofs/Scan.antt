@@ -1,17 +1,17 @@
 -- Laws of specs/Scan.antt: a scan over the members of a set, and two orders that agree on what is scanned. Assumes nothing.
 use mathlib.Core.Path.{_≡_, refl, sym, ap, ap₂, _∙_}
-use mathlib.Core.Bool.{Bool, true, false, not, _&&_}
+use mathlib.Core.Bool.{Bool, true, false, cond, not, _&&_}
 use mathlib.Core.List.{List, [], _∷_}
 use Prim.Native.Nat.{ℕ}
 use native.Mathlib.Omega.{arith}
 use lib.Dec.{eqb}
-use Rattle.feefrac.specs.Rate.{pick}
 use Rattle.txset.specs.declared.TxSet.{TxSet}
-use Rattle.txset.specs.Lists.{elem}
+use Rattle.lists.specs.Lists.{elem}
 use Rattle.txset.specs.Sets.{mem, members, isEmpty, lowestOf}
 use Rattle.txset.proofs.Walk.{walk-step, walk-done}
 use Rattle.feeset.specs.Scan.{scan, best}
-use Rattle.txset.proofs.Lists.{elem-head, elem-tail}
+use Rattle.lists.proofs.Bools.{cond-where}
+use Rattle.lists.proofs.Lists.{elem-head, elem-tail}
 
 -- a scan of `all` on its way: `held` and its value are held, and what is left of it is the set `rest`
 pub record Scanning {A : Type 0} (above : ℕ → ℕ → Bool) (value : ℕ → A) (all : List ℕ) (held : ℕ) (worth : A) (rest : TxSet) : Type 0 where
@@ -48,10 +48,10 @@ module _
     (first : i ≡ lowestOf s)
     (next : (j : ℕ) → mem t j ≡ (mem s j && not (eqb j (lowestOf s))))
     (is : v ≡ value i) where
-  turn : (b : Bool) → over v worth ≡ b → best above (pick b i held ∷ members t) ≡ best above all
+  turn : (b : Bool) → over v worth ≡ b → best above (cond b i held ∷ members t) ≡ best above all
   unfolding best scan
   turn b e =
-      ap (λ (c : Bool). best above (pick c i held ∷ members t)) (sym e ∙ ap₂ over is (h .known) ∙ sym (by i held))
+      ap (λ (c : Bool). best above (cond c i held ∷ members t)) (sym e ∙ ap₂ over is (h .known) ∙ sym (by i held))
       ∙ ap (λ (x : ℕ). best above (held ∷ x ∷ members t)) first
       ∙ ap (λ (l : List ℕ). best above (held ∷ l)) (sym (walk-step s t next left))
       ∙ h .gives
@@ -70,16 +70,12 @@ module _
 abbrev Each : (ℕ → Type 0) → List ℕ → Type 0
 Each P xs = (i : ℕ) → elem i xs ≡ true → P i
 
-pick-has : (P : ℕ → Type 0) (b : Bool) (x y : ℕ) → P x → P y → P (pick b x y)
-pick-has P true x y p q = p
-pick-has P false x y p q = q
-
 -- what is held has what each of the list has
 scan-has : (P : ℕ → Type 0) (above : ℕ → ℕ → Bool) (held : ℕ) (xs : List ℕ) → P held → Each P xs → P (scan above held xs)
 unfolding scan
 scan-has P above held [] p h = p
 scan-has P above held (x ∷ xs) p h =
-    scan-has P above (pick (above x held) x held) xs (pick-has P (above x held) x held (h x (elem-head x xs)) p) (λ i e. h i (elem-tail i x xs e))
+    scan-has P above (cond (above x held) x held) xs (cond-where P (above x held) (λ _. h x (elem-head x xs)) (λ _. p)) (λ i e. h i (elem-tail i x xs e))
 
 -- the best is one of the list
 pub best-elem : (above : ℕ → ℕ → Bool) (xs : List ℕ) (t : ℕ) → best above xs ≡ t ∷ [] → elem t xs ≡ true
@@ -95,8 +91,8 @@ scan-ext : (P : ℕ → Type 0) (above over : ℕ → ℕ → Bool) → ((x y : 
 unfolding scan
 scan-ext P above over same held [] p h = refl
 scan-ext P above over same held (x ∷ xs) p h =
-    ap (λ (b : Bool). scan above (pick b x held) xs) (same x held (h x (elem-head x xs)) p)
-    ∙ scan-ext P above over same (pick (over x held) x held) xs (pick-has P (over x held) x held (h x (elem-head x xs)) p)
+    ap (λ (b : Bool). scan above (cond b x held) xs) (same x held (h x (elem-head x xs)) p)
+    ∙ scan-ext P above over same (cond (over x held) x held) xs (cond-where P (over x held) (λ _. h x (elem-head x xs)) (λ _. p))
     (λ i e. h i (elem-tail i x xs e))
 
 -- two orders that agree on the list have the same best

@@ -1,15 +1,15 @@
 -- Document 01, module 1: "every "highest" below is one scan upwards (positions, or the chunk list), the held one yielding only
 -- to one strictly above". Assumes nothing.
 use Prim.Native.Nat.{ℕ}
-use mathlib.Core.Bool.{Bool}
+use mathlib.Core.Bool.{Bool, cond}
 use mathlib.Core.List.{List, [], _∷_}
 use Rattle.feefrac.specs.declared.FeeFrac.{FeeFrac}
-use Rattle.feefrac.specs.Rate.{pick, rankOrder, isGreater}
+use Rattle.feefrac.specs.Rate.{rankOrder, isGreater}
 
 -- what is held at the end of a scan; `above x y` says that x is strictly above y
 unfoldable pub scan : (ℕ → ℕ → Bool) → ℕ → List ℕ → ℕ
 scan above held [] = held
-scan above held (x ∷ xs) = scan above (pick (above x held) x held) xs
+scan above held (x ∷ xs) = scan above (cond (above x held) x held) xs
 
 -- the best of some candidates, as a list of one; of none, none
 unfoldable pub best : (ℕ → ℕ → Bool) → List ℕ → List ℕ

@@ -5,11 +5,11 @@ use mathlib.Core.List.{List·Memᴰ}
 use lib.Dec.{eqb}
 use borrow.Author.Tests.{eqb-true}
 use Rattle.feefrac.specs.Rate.{rateAt, sum, difference, negated, higher, rateOrder, sizeOrder, rankOrder}
-use Rattle.txset.specs.Below.{anyFrom, allFrom, countFrom, listFrom}
-use Rattle.txset.specs.Lists.{anyOf, allOf, elem, same, highestOf}
+use Rattle.lists.specs.Below.{anyFrom, allFrom, countFrom, listFrom}
+use Rattle.lists.specs.Lists.{anyOf, allOf, elem, same, highestOf}
 use Rattle.txset.specs.Sets.{has, hasIn, mem, setAt}
-use Rattle.txset.proofs.Bools.{and-left, and-right}
-use Rattle.txset.proofs.Lists.{each, same-is}
+use Rattle.lists.proofs.Bools.{and-left, and-right}
+use Rattle.lists.proofs.Lists.{each, same-is}
 use Rattle.feeset.specs.Scan.{scan, best, ranksAbove}
 use Rattle.feeset.specs.Total.{totalFrom}
 use Rattle.refusals.specs.Refusals.{answerOf, inRange, firstOutside, anyOutside}

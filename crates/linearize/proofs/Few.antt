@@ -8,11 +8,10 @@ use lib.ListN.{length, drop, set}
 use lib.Dec.{eqb, ltb}
 use lib.IntN.{ℤ}
 use borrow.Author.Tests.{eq-eqb, not-true}
-use Rattle.txset.specs.Lists.{anyOf, elem}
+use Rattle.lists.specs.Lists.{anyOf, elem, overwrite}
 use Rattle.txset.specs.Sets.{mem, setAt}
-use Rattle.txset.proofs.Below.{clash}
+use Rattle.lists.proofs.Bools.{clash, and-both}
 use Rattle.depgraph.specs.Graph.{isParent, Above, parent, further, isCyclic}
-use Rattle.txset.proofs.Bools.{and-both}
 use Rattle.depgraph.proofs.Reach.{parent-both}
 use Rattle.depgraph.proofs.Theorems.{cyclic-is}
 use Rattle.linearize.specs.Linearize.{linearOrder}
@@ -59,9 +58,9 @@ module _ (fs : List ℤ) (ss ps : List ℕ) (as-long : length ps ≡ length fs) 
       one-zero (linearOrder fs ss ps) (omega arith) (λ i m. omega (arith, linear-below fs ss ps i m))
 
 -- the room with such an order at its start
-pub none-room : (o room : List ℕ) → o ≡ [] → room ≡ o ++ drop (length o) room
+pub none-room : (o room : List ℕ) → o ≡ [] → room ≡ overwrite o room
 none-room o room e = rw e
 
-pub alone-room : (o room : List ℕ) → o ≡ 0 ∷ [] → 1 ≤ length room → set room 0 0 ≡ o ++ drop (length o) room
+pub alone-room : (o room : List ℕ) → o ≡ 0 ∷ [] → 1 ≤ length room → set room 0 0 ≡ overwrite o room
 alone-room o [] e h = absurd (omega arith)
 alone-room o (x ∷ room) e h = rw e

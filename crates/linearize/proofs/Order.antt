@@ -2,13 +2,13 @@
 use Prim.Native.Nat.{ℕ, _≤_}
 use native.Mathlib.Omega.{arith}
 use mathlib.Core.Path.{_≡_, sym, ap, ap₂, _∙_}
-use mathlib.Core.Bool.{Bool, true, _&&_}
+use mathlib.Core.Bool.{Bool, true, cond, _&&_}
 use mathlib.Core.List.{List, _++_, append-nil}
 use lib.ListN.{length, drop, drop-of-length-le}
 use lib.Dec.{leb}
 use lib.IntN.{ℤ}
 use borrow.Author.Tests.{le-leb}
-use Rattle.feefrac.specs.Rate.{pick}
+use Rattle.lists.specs.Lists.{overwrite}
 use Rattle.txset.specs.Sets.{positions, mem, setAt}
 use Rattle.depgraph.specs.declared.DepGraph.{DepGraph}
 use Rattle.depgraph.specs.Closed.{Closed}
@@ -45,8 +45,8 @@ module _ (fs : List ℤ) (ss A D order room : List ℕ) (r : Ready fs A order ro
       (nothing-behind (ancestorOrder fs ss anc) order (r .long))
 
   pub steps : (o mid last : List ℕ) (k : ℕ) (out : List ℕ) → o ≡ Candidates.filled fs ss anc order
-      → mid ≡ pick (leb (length o) 64) (backPass fs ss desc o) o
-      → last ≡ pick (leb (length mid) 64) (forwardPass fs ss anc mid) mid
+      → mid ≡ cond (leb (length o) 64) (backPass fs ss desc o) o
+      → last ≡ cond (leb (length mid) 64) (forwardPass fs ss anc mid) mid
       → k ≡ Output.written fs ss anc last room → out ≡ Output.filled fs ss anc last room
       → (k ≡ length (stepsOf fs ss anc desc)) × (out ≡ stepsOf fs ss anc desc ++ drop k room)
   unfolding stepsOf Output.written Output.filled Output.fits
@@ -82,7 +82,7 @@ is-linear fs ss c = ap₂ (λ (a d : ℕ → ℕ → Bool). outputOrder fs ss a 
 pub linear-done : (fs : List ℤ) (ss room : List ℕ) {ps : List ℕ} {g : DepGraph} (k : ℕ) (out : List ℕ) → Closed ps g
     → k ≡ length (stepsOf fs ss (λ i. mem (setAt (g .ancestors) i)) (λ i. mem (setAt (g .descendants) i)))
     → out ≡ stepsOf fs ss (λ i. mem (setAt (g .ancestors) i)) (λ i. mem (setAt (g .descendants) i)) ++ drop k room
-    → (k ≡ length (linearOrder fs ss ps)) × (out ≡ linearOrder fs ss ps ++ drop (length (linearOrder fs ss ps)) room)
+    → (k ≡ length (linearOrder fs ss ps)) × (out ≡ overwrite (linearOrder fs ss ps) room)
 linear-done fs ss room {ps} k out c e f =
     let n : k ≡ length (linearOrder fs ss ps) = e ∙ ap length (is-linear fs ss c) in
     (n, f ∙ ap₂ _++_ (is-linear fs ss c) (ap (λ (j : ℕ). drop j room) n))

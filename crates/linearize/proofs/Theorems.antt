@@ -6,12 +6,12 @@ use mathlib.Core.List.{List, _∷_, _++_}
 use native.Mathlib.Omega.{arith}
 use lib.ListN.{length}
 use lib.IntN.{ℤ}
-use Rattle.txset.specs.Lists.{elem, distinct}
+use Rattle.lists.specs.Lists.{elem, distinct}
 use Rattle.depgraph.specs.Graph.{isAncestor, isCyclic}
 use Rattle.depgraph.proofs.Theorems.{ancestor-refl, ancestor-trans, fewer}
 use Rattle.candidates.specs.Candidates.{ancestorOrder}
 use Rattle.candidates.proofs.Theorems.{each-below, none-twice, every-member, after-ancestors}
-use Rattle.txset.proofs.Lists.{After}
+use Rattle.lists.proofs.Lists.{After}
 use Rattle.post_linearize.specs.PostLinearize.{postLinearize}
 use Rattle.post_linearize.proofs.Theorems.{post-same, post-after}
 use Rattle.output_order.proofs.Theorems.{out-below, out-once, out-after, out-every, out-length}

@@ -7,7 +7,7 @@ use mathlib.Core.List.{List, [], _∷_, map}
 use lib.Dec.{eqb}
 use lib.IntN.{ℤ, pos}
 use Rattle.feefrac.specs.Rate.{rateAt}
-use Rattle.txset.specs.Lists.{same}
+use Rattle.lists.specs.Lists.{same}
 use Rattle.refusals.specs.Refusals.{answerOf}
 use Rattle.chunking.specs.Chunks.{chunkLengths, rates}
 use Rattle.linearize.specs.Linearize.{refusals, linearOrder}

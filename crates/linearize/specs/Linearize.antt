@@ -3,6 +3,7 @@ use Prim.Native.Nat.{ℕ}
 use mathlib.Core.List.{List, [], _∷_, _++_}
 use lib.ListN.{length, drop}
 use lib.IntN.{ℤ}
+use Rattle.lists.specs.Lists.{overwrite}
 use Rattle.depgraph.specs.Graph.{isAncestor, isCyclic}
 use Rattle.refusals.specs.declared.Reply.{Reply}
 use Rattle.refusals.specs.Refusals.{Line, line, refusal, success, replyOf, keptUnless, differ₃, tooMany, short, anyOutside}
@@ -26,4 +27,4 @@ reply fs ss ps room = replyOf refusal (refusals fs ss ps room) (success (length 
 -- the order at the room's start; "the rest stays"
 unfoldable pub roomAfter : List ℤ → List ℕ → List ℕ → List ℕ → List ℕ
 roomAfter fs ss ps room =
-    keptUnless (refusals fs ss ps room) room (linearOrder fs ss ps ++ drop (length (linearOrder fs ss ps)) room)
+    keptUnless (refusals fs ss ps room) room (overwrite (linearOrder fs ss ps) room)

@@ -1,18 +1,19 @@
 -- A scan over the members of a set that are ready, with nothing held until the first of them. Assumes nothing.
 use mathlib.Core.Path.{_≡_, refl, sym, ap, _∙_}
-use mathlib.Core.Bool.{Bool, true, false, not, _&&_, and-eq-true-iff}
+use mathlib.Core.Bool.{Bool, true, false, cond, not, _&&_, and-eq-true-iff}
 use mathlib.Core.Logic.{⊎-elim}
 use mathlib.Core.List.{List, [], _∷_, _++_}
 use Prim.Native.Nat.{ℕ, zero, suc, _≤_, _<_}
 use native.Mathlib.Omega.{arith}
 use lib.Dec.{eqb}
 use borrow.Author.Tests.{eq-eqb, ne-eqb}
-use Rattle.feefrac.specs.Rate.{pick}
 use Rattle.txset.specs.declared.TxSet.{TxSet}
-use Rattle.txset.specs.Below.{keepIf, listFrom}
+use Rattle.lists.specs.Below.{keepIf, listFrom}
 use Rattle.txset.specs.Sets.{positions, mem, members, size, isEmpty, lowestOf}
-use Rattle.txset.specs.Lists.{elem}
-use Rattle.txset.proofs.Below.{clash, lt-or-ge, elem-in, elem-out}
+use Rattle.lists.specs.Lists.{elem}
+use Rattle.lists.proofs.Bools.{clash}
+use Rattle.lists.proofs.Below.{elem-in, elem-out}
+use Rattle.lists.proofs.Numbers.{lt-or-ge}
 use Rattle.txset.proofs.Walk.{walk-step, walk-less, walk-done, lowest-position}
 use Rattle.feeset.specs.Scan.{scan, best}
 use Rattle.feeset.proofs.Scan.{best-elem}
@@ -44,10 +45,10 @@ best-mem above ready s t e =
 
 -- nothing is held, or one
 pub held-none : (held : ℕ) → held ≡ positions → heldOf held ≡ []
-held-none held e = ap (λ (b : Bool). pick b [] (held ∷ [])) (eq-eqb held positions e)
+held-none held e = ap (λ (b : Bool). cond b [] (held ∷ [])) (eq-eqb held positions e)
 
 pub held-one : (held : ℕ) → (held ≡ positions → ⊥) → heldOf held ≡ held ∷ []
-held-one held n = ap (λ (b : Bool). pick b [] (held ∷ [])) (ne-eqb held positions n)
+held-one held n = ap (λ (b : Bool). cond b [] (held ∷ [])) (ne-eqb held positions n)
 
 -- a scan of those of `all` that are ready on its way: what is held, and the set that is left
 pub record Held (above : ℕ → ℕ → Bool) (ready : ℕ → Bool) (all : List ℕ) (held : ℕ) (rest : TxSet) : Type 0 where
@@ -65,7 +66,7 @@ unfolding best scan only
 held-stop {above = above} {ready = ready} {held = held} {s = s} h e =
     alone (eqb held positions) ∙ sym (ap (λ (l : List ℕ). best above (heldOf held ++ only ready l)) (walk-done s e)) ∙ h .gives
   where
-    alone : (b : Bool) → pick b [] (held ∷ []) ≡ best above (pick b [] (held ∷ []) ++ [])
+    alone : (b : Bool) → cond b [] (held ∷ []) ≡ best above (cond b [] (held ∷ []) ++ [])
     alone true = refl
     alone false = refl
 
@@ -113,12 +114,12 @@ module _
         ∙ step true e;
   }
 
-  turn : (b : Bool) → above i held ≡ b → ready i ≡ true → (held ≡ positions → ⊥) → (pick b i held ≡ positions → ⊥)
-      → best above (heldOf (pick b i held) ++ only ready (members t)) ≡ best above (only ready all)
+  turn : (b : Bool) → above i held ≡ b → ready i ≡ true → (held ≡ positions → ⊥) → (cond b i held ≡ positions → ⊥)
+      → best above (heldOf (cond b i held) ++ only ready (members t)) ≡ best above (only ready all)
   unfolding best scan
   turn b a e n m =
-      ap (λ (l : List ℕ). best above (l ++ only ready (members t))) (held-one (pick b i held) m)
-      ∙ ap (λ (c : Bool). best above (pick c i held ∷ only ready (members t))) (sym a)
+      ap (λ (l : List ℕ). best above (l ++ only ready (members t))) (held-one (cond b i held) m)
+      ∙ ap (λ (c : Bool). best above (cond c i held ∷ only ready (members t))) (sym a)
       ∙ sym (ap (λ (l : List ℕ). best above (l ++ i ∷ only ready (members t))) (held-one held n))
       ∙ step true e
 

@@ -18,9 +18,9 @@ use Rattle.feefrac.specs.declared.FeeFrac.{FeeFrac}
 use Rattle.feefrac.specs.Rate.{zeroRate, rateAt}
 use Rattle.feefrac.proofs.Lists as rates'
 use Rattle.txset.specs.declared.TxSet.{TxSet}
-use Rattle.txset.specs.Lists.{anyOf, elem, highestOf}
+use Rattle.lists.specs.Lists.{anyOf, elem, highestOf}
 use Rattle.txset.specs.Sets.{positions, isPosition, mem, setAt, putAt}
-use Rattle.txset.proofs.Below.{lt-or-ge}
+use Rattle.lists.proofs.Numbers.{lt-or-ge}
 use Rattle.txset.proofs.Sets.{put-same, put-other, length-put}
 use Rattle.chunking.specs.Chunks.{rates, fits, written, filled}
 use Rattle.chunking.proofs.Laws.{length-rates, rates-at}

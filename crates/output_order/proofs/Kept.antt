@@ -11,11 +11,12 @@ use lib.Seq.{take-append-seam, take-append-add, getD-append-seam}
 use lib.IntN.{ℤ}
 use borrow.Author.Tests.{ne-eqb, not-true}
 use Rattle.feefrac.specs.Rate.{rateAt}
-use Rattle.txset.specs.Below.{listFrom}
-use Rattle.txset.specs.Lists.{anyOf, elem}
-use Rattle.txset.proofs.Below.{lt-or-ge, elem-in, all-at}
-use Rattle.txset.proofs.Bools.{and-left, and-right}
-use Rattle.txset.proofs.Lists.{After}
+use Rattle.lists.specs.Below.{listFrom}
+use Rattle.lists.specs.Lists.{anyOf, elem}
+use Rattle.lists.proofs.Numbers.{lt-or-ge}
+use Rattle.lists.proofs.Below.{elem-in, all-at}
+use Rattle.lists.proofs.Bools.{and-left, and-right}
+use Rattle.lists.proofs.Lists.{After}
 use Rattle.feeset.specs.Scan.{scan, best, ranksAbove}
 use Rattle.feeset.proofs.Scan.{best-elem}
 use Rattle.candidates.proofs.Kept.{elem-below}

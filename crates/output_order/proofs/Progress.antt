@@ -12,12 +12,13 @@ use lib.ListN.{length, take, drop, length-drop, take-append-drop}
 use lib.IntN.{ℤ}
 use borrow.Author.Tests.{eqb-true, eqb-false, ne-eqb, not-true, not-false}
 use Rattle.feefrac.specs.Rate.{rateAt}
-use Rattle.txset.specs.Below.{bit, allFrom, countFrom, firstFrom, listFrom}
-use Rattle.txset.specs.Lists.{anyOf, elem}
-use Rattle.txset.proofs.Below.{clash, lt-or-ge, elem-in, list-nil, at-none, all-at, at-all, count-list, count-ext, count-without, first-is}
-use Rattle.txset.proofs.Lists.{elem-append, elem-left, elem-one, elem-head, without-append, After}
-use Rattle.txset.proofs.Ranges.{count-le}
-use Rattle.txset.proofs.Bools.{and-left, and-right, or-either, implies}
+use Rattle.lists.specs.Below.{bit, allFrom, countFrom, firstFrom, listFrom}
+use Rattle.lists.specs.Lists.{anyOf, elem}
+use Rattle.lists.proofs.Bools.{clash, and-left, and-right, or-either, implies}
+use Rattle.lists.proofs.Below.{elem-in, list-nil, at-none, all-at, at-all, count-list, count-ext, count-without, first-is}
+use Rattle.lists.proofs.Lists.{elem-append, elem-left, elem-one, elem-head, without-append, After}
+use Rattle.lists.proofs.Ranges.{count-le}
+use Rattle.lists.proofs.Numbers.{lt-or-ge}
 use Rattle.feeset.specs.Scan.{ranksAbove}
 use Rattle.feefrac.proofs.Exact.{sumOf}
 use Rattle.candidates.proofs.Kept.{elem-below, left, left-less, once-none}

@@ -12,11 +12,11 @@ use lib.Seq.{drop-cons, set-at, append-snoc}
 use borrow.Author.Tests.{eqb-true, not-true}
 use Rattle.feefrac.specs.Rate.{rateAt}
 use Rattle.txset.specs.declared.TxSet.{TxSet}
-use Rattle.txset.specs.Below.{listFrom}
-use Rattle.txset.specs.Lists.{elem}
+use Rattle.lists.specs.Below.{listFrom}
+use Rattle.lists.specs.Lists.{elem}
 use Rattle.txset.specs.Sets.{positions, isPosition, mem, members, size, isEmpty, setAt}
-use Rattle.txset.proofs.Lists.{elem-append, elem-one}
-use Rattle.txset.proofs.Ranges.{list-below}
+use Rattle.lists.proofs.Lists.{elem-append, elem-one}
+use Rattle.lists.proofs.Ranges.{list-below}
 use Rattle.txset.proofs.Sets.{mem-position, size-without}
 use Rattle.txset.proofs.Walk.{walk-done}
 use Rattle.feeset.specs.Scan.{best, ranksAbove}

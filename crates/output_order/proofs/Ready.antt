@@ -8,11 +8,12 @@ use native.Mathlib.Omega.{arith}
 use lib.Dec.{eqb, ltb}
 use borrow.Author.Tests.{lt-ltb, le-ltb, ltb-true, not-true}
 use Rattle.txset.specs.declared.TxSet.{TxSet}
-use Rattle.txset.specs.Below.{anyFrom, allFrom, firstFrom}
-use Rattle.txset.specs.Lists.{elem}
+use Rattle.lists.specs.Below.{anyFrom, allFrom, firstFrom}
+use Rattle.lists.specs.Lists.{elem}
 use Rattle.txset.specs.Sets.{positions, mem, isSubset, setAt}
-use Rattle.txset.proofs.Below.{lt-or-ge, any-at, all-ext, all-at, at-all, first-has, first-below}
-use Rattle.txset.proofs.Bools.{implies}
+use Rattle.lists.proofs.Numbers.{lt-or-ge}
+use Rattle.lists.proofs.Below.{any-at, all-ext, all-at, at-all, first-has, first-below}
+use Rattle.lists.proofs.Bools.{implies}
 use Rattle.txset.proofs.Sets.{subset-mem, mem-subset}
 use Rattle.output_order.specs.Output.{chunkReady, memberReady}
 use Rattle.output_order.specs.Steps.{All, needed}

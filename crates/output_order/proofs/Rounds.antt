@@ -1,6 +1,6 @@
 -- The chunks put out one after the other: `left` are those that are not taken yet. Assumes nothing.
 use mathlib.Core.Path.{_≡_, refl, sym, ap, ap₂, _∙_}
-use mathlib.Core.Bool.{Bool, true, false, not, _&&_, _||_, and-false, and-true, and-eq-true-iff}
+use mathlib.Core.Bool.{Bool, true, false, cond, not, _&&_, _||_, and-false, and-true, and-eq-true-iff}
 use mathlib.Core.List.{List, [], _∷_, _++_}
 use mathlib.Core.Logic.{⊎-elim}
 use Prim.Native.Nat.{ℕ, zero, suc, _+_, _-_, _≤_, _<_}
@@ -9,13 +9,14 @@ use lib.Dec.{eqb, ltb, leb}
 use lib.IntN.{ℤ}
 use lib.ListN.{length, drop}
 use borrow.Author.Tests.{ltb-true, le-leb, lt-leb}
-use Rattle.feefrac.specs.Rate.{pick}
 use Rattle.txset.specs.declared.TxSet.{TxSet}
-use Rattle.txset.specs.Below.{listFrom}
-use Rattle.txset.specs.Lists.{anyOf, elem}
+use Rattle.lists.specs.Below.{listFrom}
+use Rattle.lists.specs.Lists.{anyOf, elem, overwrite}
 use Rattle.txset.specs.Sets.{positions, isPosition, mem, members, setAt}
-use Rattle.txset.proofs.Below.{clash, lt-or-ge, elem-out}
-use Rattle.txset.proofs.Ranges.{list-below}
+use Rattle.lists.proofs.Bools.{clash}
+use Rattle.lists.proofs.Below.{elem-out}
+use Rattle.lists.proofs.Ranges.{list-below}
+use Rattle.lists.proofs.Numbers.{lt-or-ge}
 use Rattle.txset.proofs.Sets.{size-members, mem-empty}
 use Rattle.txset.proofs.Walk.{walk-done}
 use Rattle.feeset.specs.Scan.{best}
@@ -52,8 +53,8 @@ module _ (fs : List ℤ) (ss : List ℕ) (anc : ℕ → ℕ → Bool) (order roo
   refuses : fits fs order room ≡ false → Answered 0 room
   unfolding written filled
   refuses e = (
-    sym (ap (λ (b : Bool). pick b (length (outputOrder fs ss anc order)) 0) e),
-    sym (ap (λ (b : Bool). pick b (outputOrder fs ss anc order ++ drop (length (outputOrder fs ss anc order)) room) room) e),
+    sym (ap (λ (b : Bool). cond b (length (outputOrder fs ss anc order)) 0) e),
+    sym (ap (λ (b : Bool). cond b (overwrite (outputOrder fs ss anc order) room) room) e),
   )
 
   pub refuses-members : positions < length fs → Answered 0 room
@@ -80,9 +81,9 @@ module _ (fs : List ℤ) (ss : List ℕ) (anc : ℕ → ℕ → Bool) (order roo
         let yes : fits fs order room ≡ true =
         ap₂ (λ (a b : Bool). a && (b && leb (length fs) (length room))) (le-leb (length fs) positions h) (le-leb (length order) (length fs) g)
         ∙ le-leb (length fs) (length room) l in (
-          p .count ∙ ap length e ∙ sym (ap (λ (b : Bool). pick b (length (outputOrder fs ss anc order)) 0) yes),
-          p .are ∙ ap (λ (m : ℕ). out ++ drop m room) (p .count) ∙ ap (λ (o : List ℕ). o ++ drop (length o) room) e
-              ∙ sym (ap (λ (b : Bool). pick b (outputOrder fs ss anc order ++ drop (length (outputOrder fs ss anc order)) room) room) yes),
+          p .count ∙ ap length e ∙ sym (ap (λ (b : Bool). cond b (length (outputOrder fs ss anc order)) 0) yes),
+          p .are ∙ ap (λ (m : ℕ). out ++ drop m room) (p .count) ∙ ap (λ (o : List ℕ). overwrite o room) e
+              ∙ sym (ap (λ (b : Bool). cond b (overwrite (outputOrder fs ss anc order) room) room) yes),
         )
 
 -- ---- the loop

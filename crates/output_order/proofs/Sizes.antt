@@ -9,11 +9,12 @@ use lib.Dec.{eqb, ltb}
 use lib.ListN.{length}
 use borrow.Author.Tests.{lt-ltb, eq-eqb, eqb-true, not-true}
 use Rattle.txset.specs.declared.TxSet.{TxSet}
-use Rattle.txset.specs.Below.{countFrom}
-use Rattle.txset.specs.Lists.{anyOf, elem}
+use Rattle.lists.specs.Below.{countFrom}
+use Rattle.lists.specs.Lists.{anyOf, elem}
 use Rattle.txset.specs.Sets.{positions, isPosition, mem, size}
-use Rattle.txset.proofs.Below.{lt-or-ge, at-none, list-nil, count-list, count-ext, count-without}
-use Rattle.txset.proofs.Ranges.{count-below, count-le}
+use Rattle.lists.proofs.Numbers.{lt-or-ge}
+use Rattle.lists.proofs.Below.{at-none, list-nil, count-list, count-ext, count-without}
+use Rattle.lists.proofs.Ranges.{count-below, count-le}
 use Rattle.txset.proofs.Sets.{size-without}
 
 -- what holds of positions alone need not ask whether it is one

@@ -12,10 +12,10 @@ use borrow.Author.Count.{below-none}
 use Rattle.feefrac.specs.declared.FeeFrac.{FeeFrac}
 use Rattle.feefrac.specs.Rate.{rateAt}
 use Rattle.txset.specs.declared.TxSet.{TxSet}
-use Rattle.txset.specs.Below.{keepIf, anyFrom, listFrom}
-use Rattle.txset.specs.Lists.{anyOf, elem}
+use Rattle.lists.specs.Below.{keepIf, anyFrom, listFrom}
+use Rattle.lists.specs.Lists.{anyOf, elem}
 use Rattle.txset.specs.Sets.{positions, mem, members, isEmpty, lowestOf, setAt, putAt}
-use Rattle.txset.proofs.Ranges.{list-below}
+use Rattle.lists.proofs.Ranges.{list-below}
 use Rattle.txset.proofs.Sets.{length-put}
 use Rattle.txset.proofs.Walk.{walk-step, walk-done}
 use Rattle.feeset.specs.Total.{total}

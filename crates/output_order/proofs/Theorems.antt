@@ -9,12 +9,12 @@ use mathlib.Core.List.{List, [], _∷_, _++_, map}
 use lib.IntN.{ℤ}
 use lib.ListN.{length, length-map}
 use Rattle.feefrac.specs.Rate.{rateAt}
-use Rattle.txset.specs.Below.{listFrom}
-use Rattle.txset.specs.Lists.{elem, distinct}
+use Rattle.lists.specs.Below.{listFrom}
+use Rattle.lists.specs.Lists.{elem, distinct}
 use Rattle.feeset.specs.Scan.{best, ranksAbove}
 use Rattle.chunking.specs.Chunks.{chunkLengths}
 use Rattle.chunking.proofs.Theorems.{lengths-sum}
-use Rattle.txset.proofs.Lists.{After}
+use Rattle.lists.proofs.Lists.{After}
 use Rattle.candidates.proofs.Kept.{Once, once-none, once-more, after-none}
 use Rattle.output_order.specs.Output.{chunksOf, chunkAt, chunkReady, memberReady, nextChunk, outputOrder}
 use Rattle.output_order.proofs.Cutting.{length-cut}

@@ -1,15 +1,15 @@
 -- Document 01, module 7 (output_order): the chunks of a linearization, and the members inside each, put out in their final order.
 -- `n` is the number of members, `anc i a` says that a is an ancestor of i, `out` lists what is out. Assumes nothing.
 use Prim.Native.Nat.{ℕ, zero, suc}
-use mathlib.Core.Bool.{Bool, not, _&&_, _||_}
+use mathlib.Core.Bool.{Bool, cond, not, _&&_, _||_}
 use mathlib.Core.List.{List, [], _∷_, _++_, map}
 use lib.ListN.{length, take, drop, getD}
 use lib.Dec.{eqb, leb}
 use lib.IntN.{ℤ}
 use Rattle.feefrac.specs.declared.FeeFrac.{FeeFrac}
-use Rattle.feefrac.specs.Rate.{pick, rankOrder, sizeOrder, thenBy, isGreater, rateAt}
-use Rattle.txset.specs.Below.{allFrom, listFrom}
-use Rattle.txset.specs.Lists.{elem, highestOf}
+use Rattle.feefrac.specs.Rate.{rankOrder, sizeOrder, thenBy, isGreater, rateAt}
+use Rattle.lists.specs.Below.{allFrom, listFrom}
+use Rattle.lists.specs.Lists.{elem, highestOf, overwrite}
 use Rattle.txset.specs.Sets.{positions}
 use Rattle.feeset.specs.Total.{total}
 use Rattle.chunking.specs.Chunks.{chunkLengths}
@@ -82,18 +82,18 @@ unfoldable pub cuts : List ℕ → List ℕ → Bool
 cuts order room = leb (length order) positions && leb (length order) (length room)
 
 unfoldable pub lengthsWritten : List ℤ → List ℕ → List ℕ → List ℕ → ℕ
-lengthsWritten fs ss order room = pick (cuts order room) (length (orderLengths fs ss order)) 0
+lengthsWritten fs ss order room = cond (cuts order room) (length (orderLengths fs ss order)) 0
 
 unfoldable pub lengthsFilled : List ℤ → List ℕ → List ℕ → List ℕ → List ℕ
 lengthsFilled fs ss order room =
-    pick (cuts order room) (orderLengths fs ss order ++ drop (length (orderLengths fs ss order)) room) room
+    cond (cuts order room) (overwrite (orderLengths fs ss order) room) room
 
 -- whether there are at most 64 members, an order of at most as many, and a place for each
 unfoldable pub fits : List ℤ → List ℕ → List ℕ → Bool
 fits fs order room = leb (length fs) positions && (leb (length order) (length fs) && leb (length fs) (length room))
 
 unfoldable pub written : List ℤ → List ℕ → (ℕ → ℕ → Bool) → List ℕ → List ℕ → ℕ
-written fs ss anc order room = pick (fits fs order room) (length (outputOrder fs ss anc order)) 0
+written fs ss anc order room = cond (fits fs order room) (length (outputOrder fs ss anc order)) 0
 
 unfoldable pub filled : List ℤ → List ℕ → (ℕ → ℕ → Bool) → List ℕ → List ℕ → List ℕ
-filled fs ss anc order room = pick (fits fs order room) (outputOrder fs ss anc order ++ drop (length (outputOrder fs ss anc order)) room) room
+filled fs ss anc order room = cond (fits fs order room) (overwrite (outputOrder fs ss anc order) room) room

@@ -1,15 +1,15 @@
 -- What the functions that choose and put out speak of: no contract outside this crate cites these. Assumes nothing.
 use Prim.Native.Nat.{ℕ, _≤_, _<_}
 use mathlib.Core.Path.{_≡_}
-use mathlib.Core.Bool.{Bool, true, not, _&&_, _||_}
+use mathlib.Core.Bool.{Bool, true, cond, not, _&&_, _||_}
 use mathlib.Core.List.{List, [], _∷_, _++_}
 use lib.ListN.{length, drop, getD}
 use lib.Dec.{eqb, ltb}
 use lib.IntN.{ℤ}
-use Rattle.feefrac.specs.Rate.{pick, rankOrder, sizeOrder, thenBy, isGreater, rateAt}
+use Rattle.feefrac.specs.Rate.{rankOrder, sizeOrder, thenBy, isGreater, rateAt}
 use Rattle.txset.specs.declared.TxSet.{TxSet}
-use Rattle.txset.specs.Below.{keepIf, allFrom}
-use Rattle.txset.specs.Lists.{elem}
+use Rattle.lists.specs.Below.{keepIf, allFrom}
+use Rattle.lists.specs.Lists.{elem}
 use Rattle.txset.specs.Sets.{positions, mem, members, size, isSubset, setAt}
 use Rattle.feeset.specs.Scan.{best, ranksAbove}
 use Rattle.output_order.specs.declared.Choice.{Choice}
@@ -23,7 +23,7 @@ chosen Nothing = []
 
 -- what a scan holds as a list of one or none: 64 is nothing
 abbrev pub heldOf : ℕ → List ℕ
-heldOf held = pick (eqb held positions) [] (held ∷ [])
+heldOf held = cond (eqb held positions) [] (held ∷ [])
 
 -- the elements that have it
 unfoldable pub only : (ℕ → Bool) → List ℕ → List ℕ

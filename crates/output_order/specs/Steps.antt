@@ -8,8 +8,8 @@ use lib.Dec.{ltb}
 use lib.IntN.{ℤ}
 use Rattle.feefrac.specs.Rate.{rateAt}
 use Rattle.txset.specs.declared.TxSet.{TxSet}
-use Rattle.txset.specs.Below.{anyFrom}
-use Rattle.txset.specs.Lists.{elem, highestOf}
+use Rattle.lists.specs.Below.{anyFrom}
+use Rattle.lists.specs.Lists.{elem, highestOf}
 use Rattle.txset.specs.Sets.{positions, mem, setAt}
 use Rattle.output_order.specs.Output.{chunkAt, chunkRate}
 

@@ -4,7 +4,7 @@ ghost use mathlib.Core.Bool.{true, _&&_};
 ghost use mathlib.Core.List.{List};
 ghost use Prim.Native.Nat.{ℕ, _≤_, _<_};
 ghost use lib.ListN.{length};
-ghost use Rattle.txset.specs.Lists.{anyOf, elem, highestOf};
+ghost use Rattle.lists.specs.Lists.{anyOf, elem, highestOf};
 ghost use Rattle.txset.specs.Sets.{positions, isPosition, mem, members, setAt};
 ghost use Rattle.output_order.specs.Output.{chunksOf, written, filled, lengthsWritten, lengthsFilled};
 ghost use Rattle.output_order.specs.Setup.{Gathered};

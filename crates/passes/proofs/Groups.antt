@@ -11,15 +11,14 @@ use borrow.Author.Tests.{lt-ltb}
 use Rattle.feefrac.specs.declared.FeeFrac.{FeeFrac}
 use Rattle.feefrac.specs.Rate.{sum}
 use Rattle.txset.specs.declared.TxSet.{TxSet}
-use Rattle.txset.specs.Lists.{anyOf, elem}
+use Rattle.lists.specs.Lists.{anyOf, elem}
 use Rattle.txset.specs.Sets.{positions, isPosition, mem, overlap, setAt}
-use Rattle.txset.proofs.Below.{clash}
+use Rattle.lists.proofs.Bools.{clash, false-together}
 use Rattle.txset.proofs.Sets.{mem-position, mem-disjoint, disjoint-mem}
 use Rattle.passes.specs.declared.pass.Group.{Group as Summary}
 use Rattle.passes.specs.Summary.{Single, Joined}
 use Rattle.passes.specs.Pass.{Group, absorb, dependsOn}
-use Rattle.txset.proofs.Lists.{any-append, elem-append}
-use Rattle.passes.proofs.Lists.{false-together, any-none, none-any}
+use Rattle.lists.proofs.Lists.{any-append, elem-append, any-none, none-any}
 
 -- whether t depends on a position, by a list of sets
 abbrev pub onOf : List ℕ → ℕ → ℕ → Bool

@@ -1,5 +1,4 @@
 pub mod Groups
-pub mod Lists
 pub mod Ordered
 pub mod Scan
 pub mod Theorems

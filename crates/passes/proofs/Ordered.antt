@@ -7,14 +7,11 @@ use lib.Dec.{eqb}
 use lib.IntN.{ℤ}
 use borrow.Author.Tests.{not-true, eqb-true}
 use Rattle.feefrac.specs.declared.FeeFrac.{FeeFrac}
-use Rattle.feefrac.specs.Rate.{pick, higher, negated, rateAt}
-use Rattle.feefrac.proofs.Picks.{pick-where}
-use Rattle.txset.specs.Lists.{anyOf, elem, distinct}
-use Rattle.txset.proofs.Below.{clash}
-use Rattle.txset.proofs.Bools.{or-left, or-right}
-use Rattle.txset.proofs.Lists.{any-append, elem-append, elem-left, elem-head, elem-tail, After}
+use Rattle.feefrac.specs.Rate.{higher, negated, rateAt}
+use Rattle.lists.proofs.Bools.{cond-where, clash, or-left, or-right}
+use Rattle.lists.specs.Lists.{anyOf, elem, distinct}
+use Rattle.lists.proofs.Lists.{any-append, elem-append, elem-left, elem-head, elem-tail, After, any-none, none-any}
 use Rattle.passes.specs.Pass.{Group, absorb, dependsOn, settle, alone, groupsAfter, flat, onePass, backPass, forwardPass}
-use Rattle.passes.proofs.Lists.{any-none, none-any}
 
 -- no element depends on one behind it; that one depends on itself is not asked
 unfoldable pub ordered : (ℕ → ℕ → Bool) → List ℕ → Bool
@@ -64,8 +61,8 @@ unfolding flat settle
 settle-any f dep cur [] = refl
 settle-any f dep cur (g ∷ gs) =
     let P : List Group → Type 0 = λ l. anyOf f (flat l) ≡ anyOf f (flat gs ++ g .txs ++ cur .txs) in
-    pick-where P (higher (cur .rate) (g .rate))
-    (λ _. pick-where P (dependsOn dep cur g)
+    cond-where P (higher (cur .rate) (g .rate))
+    (λ _. cond-where P (dependsOn dep cur g)
     (λ _. settle-any f dep (absorb g cur) gs ∙ ap (anyOf f) (sym (append-assoc (flat gs) (g .txs) (cur .txs))))
     (λ _.
     any-append f (flat (settle dep cur gs)) (g .txs) ∙ ap (λ (b : Bool). b || anyOf f (g .txs)) (settle-any f dep cur gs)
@@ -85,8 +82,8 @@ settle-ordered dep cur (g ∷ gs) h =
     let P : List Group → Type 0 = λ l. ordered dep (flat l) ≡ true in
     let s = ordered-parts (flat gs ++ g .txs) (cur .txs) h in
     let t = ordered-parts (flat gs) (g .txs) (s .front) in
-    pick-where P (higher (cur .rate) (g .rate))
-    (λ _. pick-where P (dependsOn dep cur g)
+    cond-where P (higher (cur .rate) (g .rate))
+    (λ _. cond-where P (dependsOn dep cur g)
     (λ _. settle-ordered dep (absorb g cur) gs (ap (ordered dep) (sym (append-assoc (flat gs) (g .txs) (cur .txs))) ∙ h))
     (λ e. parts-ordered (record {
       front = settle-ordered dep cur gs (parts-ordered (record {

@@ -11,14 +11,12 @@ use lib.IntN.{ℤ, pos, negℤ, natAbs, _+ℤ_, +ℤ-idr, +ℤ-comm}
 use lib.ListN.{length, getD, length-append, length-reverse}
 use borrow.Author.Tests.{eq-eqb, eqb-true}
 use Rattle.feefrac.specs.declared.FeeFrac.{FeeFrac}
-use Rattle.feefrac.specs.Rate.{pick, heldSize, sum, higher, negated, rateAt}
-use Rattle.feefrac.proofs.Picks.{pick-where}
+use Rattle.feefrac.specs.Rate.{heldSize, sum, higher, negated, rateAt}
+use Rattle.lists.proofs.Bools.{cond-where, clash, false-together}
 use Rattle.feefrac.proofs.Exact.{abs-neg, held-near, sum-exact, exactSum, exact-append, spread, spread-append, abs-exact, sumOf, sumOf-append, feeLimit, Within, within-at}
-use Rattle.txset.specs.Below.{bit}
-use Rattle.txset.specs.Lists.{elem, anyOf, distinct}
-use Rattle.txset.proofs.Below.{clash}
+use Rattle.lists.specs.Below.{bit}
+use Rattle.lists.specs.Lists.{elem, anyOf, distinct}
 use Rattle.txset.proofs.Words.{Fits}
-use Rattle.passes.proofs.Lists.{false-together}
 use Rattle.passes.specs.Pass.{Group, absorb, dependsOn, settle, alone, groupsAfter, flat, onePass, backPass, forwardPass}
 
 -- how often i comes
@@ -34,8 +32,8 @@ module _ (m : List ℕ → ℕ) (none : m [] ≡ 0) (parts : (xs ys : List ℕ) 
   settle-keeps dep cur (g ∷ gs) =
       let all = parts (flat gs) (g .txs) in
       let P : List Group → Type 0 = λ l. m (flat l) ≡ m (flat gs ++ g .txs) + m (cur .txs) in
-      pick-where P (higher (cur .rate) (g .rate))
-      (λ _. pick-where P (dependsOn dep cur g)
+      cond-where P (higher (cur .rate) (g .rate))
+      (λ _. cond-where P (dependsOn dep cur g)
       (λ _. omega (arith, settle-keeps dep (absorb g cur) gs, parts (g .txs) (cur .txs)))
       (λ _. omega (arith, settle-keeps dep cur gs, parts (flat (settle dep cur gs)) (g .txs))))
       (λ _. parts (flat gs ++ g .txs) (cur .txs))
@@ -198,8 +196,8 @@ module _ (rate : ℕ → FeeFrac) where
   unfolding AllSums flat settle
   settle-sums dep cur [] h p q = (p, tt)
   settle-sums dep cur (g ∷ gs) h p q =
-      pick-where AllSums (higher (cur .rate) (g .rate))
-      (λ _. pick-where AllSums (dependsOn dep cur g)
+      cond-where AllSums (higher (cur .rate) (g .rate))
+      (λ _. cond-where AllSums (dependsOn dep cur g)
       (λ _. settle-sums dep (absorb g cur) gs (omega (arith, far-append (flat gs) (g .txs), far-append (g .txs) (cur .txs)))
       (absorb-sums g cur (omega (arith, far-append (flat gs) (g .txs))) (q .0) p) (q .1))
       (λ _. (q .0, settle-sums dep cur gs (omega (arith, far-append (flat gs) (g .txs))) p (q .1))))

@@ -1,6 +1,6 @@
 -- A list turned in place, pair by pair from its ends, and two parts swapped by three turns. Assumes nothing.
 use mathlib.Core.Path.{_≡_, refl, sym, ap, ap₂, _∙_}
-use mathlib.Core.Bool.{Bool, true, false}
+use mathlib.Core.Bool.{Bool, true, false, cond}
 use mathlib.Core.Logic.{⊎-elim}
 use mathlib.Core.List.{List, [], _∷_, _++_, reverse, reverse-cons, append-nil, reverse-append, reverse-reverse}
 use Prim.Native.Nat.{ℕ, _+_, _-_, _/_, _≤_, _<_}
@@ -10,8 +10,7 @@ use lib.ListN.{length, getD, set, take, drop, length-set, length-append, length-
 use lib.Seq.{ext-getD, length-take-le, take-all, take-at, drop-at, getD-at, getD-set-same, getD-set-other}
 use lib.Dec.{leb}
 use borrow.Rule.Slice.PartMut.{midOf, putMid, same-len-mid}
-use Rattle.feefrac.specs.Rate.{pick}
-use Rattle.txset.proofs.Below.{lt-or-ge}
+use Rattle.lists.proofs.Numbers.{lt-or-ge}
 
 -- the turned list at j is the list at the same distance from its end
 pub getD-reverse : (l : List ℕ) (j : ℕ) → j < length l → getD (reverse l) j 0 ≡ getD l (length l - 1 - j) 0
@@ -142,13 +141,13 @@ pub rotated-all : (l : List ℕ) {k : ℕ} → length l ≤ k → l ≡ drop k l
 rotated-all l {k} h = rw (drop-of-length-le l h, take-all k l h)
 
 -- f on a list turned, and turned back, where the list is short enough
-pub turned-back : (f : List ℕ → List ℕ) (l : List ℕ) {a b r : List ℕ} → a ≡ reverse l → b ≡ pick (leb (length a) 64) (f a) a → r ≡ reverse b
-    → r ≡ pick (leb (length l) 64) (reverse (f (reverse l))) l
+pub turned-back : (f : List ℕ → List ℕ) (l : List ℕ) {a b r : List ℕ} → a ≡ reverse l → b ≡ cond (leb (length a) 64) (f a) a → r ≡ reverse b
+    → r ≡ cond (leb (length l) 64) (reverse (f (reverse l))) l
 turned-back f l d e n =
-    n ∙ ap reverse (e ∙ ap (λ (m : List ℕ). pick (leb (length m) 64) (f m) m) d)
-    ∙ ap (λ (k : ℕ). reverse (pick (leb k 64) (f (reverse l)) (reverse l))) (length-reverse l)
+    n ∙ ap reverse (e ∙ ap (λ (m : List ℕ). cond (leb (length m) 64) (f m) m) d)
+    ∙ ap (λ (k : ℕ). reverse (cond (leb k 64) (f (reverse l)) (reverse l))) (length-reverse l)
     ∙ go (leb (length l) 64)
   where
-    go : (t : Bool) → reverse (pick t (f (reverse l)) (reverse l)) ≡ pick t (reverse (f (reverse l))) l
+    go : (t : Bool) → reverse (cond t (f (reverse l)) (reverse l)) ≡ cond t (reverse (f (reverse l))) l
     go true = refl
     go false = reverse-reverse l

@@ -1,12 +1,12 @@
 -- Document 01, module 5 (post_linearize): one pass over any feerates and dependencies, and each of the two passes.
 -- A list of groups has the last group first. Assumes nothing.
 use Prim.Native.Nat.{ℕ}
-use mathlib.Core.Bool.{Bool}
+use mathlib.Core.Bool.{Bool, cond}
 use mathlib.Core.List.{List, [], _∷_, _++_, reverse}
 use lib.IntN.{ℤ}
 use Rattle.feefrac.specs.declared.FeeFrac.{FeeFrac}
-use Rattle.feefrac.specs.Rate.{pick, sum, negated, higher, rateAt}
-use Rattle.txset.specs.Lists.{anyOf}
+use Rattle.feefrac.specs.Rate.{sum, negated, higher, rateAt}
+use Rattle.lists.specs.Lists.{anyOf}
 
 -- some members, in their order, and their feerate sum
 pub record Group : Type 0 where
@@ -25,8 +25,8 @@ absorb prev cur = record { txs = prev .txs ++ cur .txs; rate = sum (cur .rate) (
 unfoldable pub settle : (ℕ → ℕ → Bool) → Group → List Group → List Group
 settle dep cur [] = cur ∷ []
 settle dep cur (g ∷ gs) =
-    pick (higher (cur .rate) (g .rate))
-    (pick (dependsOn dep cur g) (settle dep (absorb g cur) gs) (g ∷ settle dep cur gs))
+    cond (higher (cur .rate) (g .rate))
+    (cond (dependsOn dep cur g) (settle dep (absorb g cur) gs) (g ∷ settle dep cur gs))
     (cur ∷ g ∷ gs)
 
 abbrev pub alone : (ℕ → FeeFrac) → ℕ → Group

@@ -4,11 +4,11 @@ use mathlib.Core.Bool.{true}
 use mathlib.Core.List.{List}
 use Prim.Native.Nat.{ℕ, _<_}
 use lib.IntN.{ℤ}
-use Rattle.txset.specs.Lists.{elem, distinct}
+use Rattle.lists.specs.Lists.{elem, distinct}
 use Rattle.depgraph.specs.Graph.{isAncestor, isDescendant}
 use Rattle.passes.specs.Pass.{backPass}
 use Rattle.passes.proofs.Theorems.{Same, back-same, forward-same}
-use Rattle.txset.proofs.Lists.{After}
+use Rattle.lists.proofs.Lists.{After}
 use Rattle.passes.proofs.Ordered.{ordered, back-ordered, forward-ordered, after-ordered, ordered-after}
 use Rattle.post_linearize.specs.PostLinearize.{postLinearize}
 

@@ -1,6 +1,6 @@
 -- What the range check says of each fee. Assumes nothing.
 use mathlib.Core.Path.{_≡_, refl}
-use mathlib.Core.Bool.{Bool, true, false, and-eq-true-iff}
+use mathlib.Core.Bool.{Bool, true, false, cond, and-eq-true-iff}
 use mathlib.Core.List.{List, [], _∷_}
 use Prim.Native.Nat.{ℕ, zero, suc, _≤_}
 use native.Mathlib.Nat.{not-suc-le-zero, le-of-suc-le-suc}
@@ -9,7 +9,6 @@ use lib.ListN.{length}
 use lib.IntN.{ℤ, pos, negsuc, natAbs}
 use lib.Signed.{leZ}
 use borrow.Author.Tests.{leb-true, ltb-false}
-use Rattle.feefrac.specs.Rate.{pick}
 use Rattle.feefrac.proofs.Exact.{feeLimit, Within}
 use Rattle.refusals.specs.Refusals.{inRange, firstOutside, anyOutside}
 
@@ -21,7 +20,7 @@ range-abs (negsuc n) e =
     omega arith
 
 -- the first is in range, and the check goes on
-passed : (b : Bool) (n m : ℕ) → suc n ≤ pick b (suc m) 0 → (b ≡ true) × (n ≤ m)
+passed : (b : Bool) (n m : ℕ) → suc n ≤ cond b (suc m) 0 → (b ≡ true) × (n ≤ m)
 passed true n m h = (refl, le-of-suc-le-suc h)
 passed false n m h = absurd (not-suc-le-zero h)
 

@@ -2,14 +2,12 @@
 -- answer. Assumes nothing.
 use Prim.Native.Nat.{ℕ, zero, suc}
 use mathlib.Core.Path.{_≡_, refl, sym, ap, _∙_}
-use mathlib.Core.Bool.{Bool, true, false, not, _&&_}
+use mathlib.Core.Bool.{Bool, true, false, cond, not, _&&_}
 use mathlib.Core.List.{List, [], _∷_}
 use lib.ListN.{drop, getD}
 use lib.Dec.{eqb}
 use borrow.Author.Tests.{eqb-true, not-true}
-use Rattle.txset.proofs.Below.{clash}
-use Rattle.txset.proofs.Bools.{and-left, and-right}
-use Rattle.feefrac.specs.Rate.{pick}
+use Rattle.lists.proofs.Bools.{clash, and-left, and-right}
 use Rattle.refusals.specs.Refusals.{Line, line, answerOf, replyOf, keptUnless}
 
 -- the n-th line; past the last, one that does not hold
@@ -35,7 +33,7 @@ pub record Gives (ls : List Line) (k : ℕ) : Type 0 where
 pub record Takes (ls : List Line) : Type 0 where
   pub answer : answerOf ls ≡ 0
 
-next : (ls : List Line) (n : ℕ) → answerOf (drop n ls) ≡ pick (lineAt ls n .holds) (lineAt ls n .number) (answerOf (drop (suc n) ls))
+next : (ls : List Line) (n : ℕ) → answerOf (drop n ls) ≡ cond (lineAt ls n .holds) (lineAt ls n .number) (answerOf (drop (suc n) ls))
 unfolding answerOf
 next [] zero = refl
 next [] (suc n) = refl
@@ -98,6 +96,6 @@ pub answered : {R : Type 0} (ls : List Line) (refused : ℕ → R) (done : R) (n
 unfolding replyOf
 answered ls refused done number z f = go (eqb (answerOf ls) 0) refl
   where
-    go : (b : Bool) → eqb (answerOf ls) 0 ≡ b → number (pick b done (refused (answerOf ls))) ≡ answerOf ls
+    go : (b : Bool) → eqb (answerOf ls) 0 ≡ b → number (cond b done (refused (answerOf ls))) ≡ answerOf ls
     go true e = z ∙ sym (eqb-true (answerOf ls) 0 e)
     go false e = f (answerOf ls)

@@ -10,10 +10,10 @@ use lib.ListN.{length, getD, take, drop, take-append-drop}
 use lib.Seq.{take-suc, take-length, drop-cons}
 use borrow.Author.Tests.{lt-ltb, le-ltb, le-leb, lt-leb, eq-eqb, ne-eqb, eqb-true}
 use Rattle.txset.specs.declared.TxSet.{TxSet}
-use Rattle.txset.specs.Lists.{anyOf, allOf, elem, distinct}
+use Rattle.lists.specs.Lists.{anyOf, allOf, elem, distinct}
 use Rattle.txset.specs.Sets.{positions, isPosition, mem}
-use Rattle.txset.proofs.Bools.{and-left}
-use Rattle.txset.proofs.Lists.{all-append, elem-append, elem-one, distinct-snoc, distinct-front}
+use Rattle.lists.proofs.Bools.{and-left}
+use Rattle.lists.proofs.Lists.{all-append, elem-append, elem-one, distinct-snoc, distinct-front}
 use Rattle.refusals.specs.Refusals.{isOrder}
 
 pub record Seen (n : ℕ) (order : List ℕ) (seen : TxSet) (i : ℕ) : Type 0 where

@@ -9,11 +9,12 @@ use native.Mathlib.Omega.{arith}
 use lib.Dec.{eqb, ltb}
 use lib.ListN.{length}
 use borrow.Author.Tests.{lt-ltb, ltb-true, eq-eqb, ne-eqb, eqb-true, not-true, not-false}
-use Rattle.txset.specs.Below.{countFrom, listFrom}
-use Rattle.txset.specs.Lists.{anyOf, allOf, elem, distinct}
-use Rattle.txset.proofs.Below.{clash, lt-or-ge, elem-in, count-list, count-ext, count-without}
-use Rattle.txset.proofs.Bools.{and-left, and-right}
-use Rattle.txset.proofs.Lists.{elem-head, elem-tail}
+use Rattle.lists.specs.Below.{countFrom, listFrom}
+use Rattle.lists.specs.Lists.{anyOf, allOf, elem, distinct}
+use Rattle.lists.proofs.Bools.{clash, and-left, and-right}
+use Rattle.lists.proofs.Below.{elem-in, count-list, count-ext, count-without}
+use Rattle.lists.proofs.Numbers.{lt-or-ge}
+use Rattle.lists.proofs.Lists.{elem-head, elem-tail}
 use Rattle.refusals.specs.Refusals.{isOrder}
 use Rattle.refusals.proofs.Orders.{order-length}
 

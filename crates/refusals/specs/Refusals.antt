@@ -1,15 +1,14 @@
 -- Document 01, "Numbers and refusals": what a call answers, the first true condition of a list, and the conditions that the
 -- cluster calls share. Assumes nothing.
 use Prim.Native.Nat.{ℕ, suc}
-use mathlib.Core.Bool.{Bool, not, _&&_, _||_}
+use mathlib.Core.Bool.{Bool, cond, not, _&&_, _||_}
 use mathlib.Core.List.{List, [], _∷_}
 use lib.ListN.{length}
 use lib.Dec.{eqb, ltb}
 use lib.IntN.{ℤ, pos, negsuc}
 use lib.Signed.{leZ}
-use Rattle.txset.specs.Lists.{allOf, distinct}
+use Rattle.lists.specs.Lists.{allOf, distinct}
 use Rattle.txset.specs.Sets.{positions}
-use Rattle.feefrac.specs.Rate.{pick}
 use Rattle.refusals.specs.declared.Reply.{Reply}
 
 -- a line of the table: its number, and whether its condition holds
@@ -23,15 +22,15 @@ line k b = record { number = k; holds = b }
 -- the number of the first line whose condition holds, in the order of the list; "0 is success"
 unfoldable pub answerOf : List Line → ℕ
 answerOf [] = 0
-answerOf (l ∷ ls) = pick (l .holds) (l .number) (answerOf ls)
+answerOf (l ∷ ls) = cond (l .holds) (l .number) (answerOf ls)
 
 -- a call's reply, of whatever it consists: `refused` of the first number that is given, else `done`
 unfoldable pub replyOf : {R : Type 0} → (ℕ → R) → List Line → R → R
-replyOf refused ls done = pick (eqb (answerOf ls) 0) done (refused (answerOf ls))
+replyOf refused ls done = cond (eqb (answerOf ls) 0) done (refused (answerOf ls))
 
 -- what lent memory holds after a call: `new` on success; after a refusal "all lent memory stays"
 unfoldable pub keptUnless : {A : Type 0} → List Line → A → A → A
-keptUnless ls old new = pick (eqb (answerOf ls) 0) new old
+keptUnless ls old new = cond (eqb (answerOf ls) 0) new old
 
 -- of the cluster calls: "A refusal returns its number and zero for all else"
 abbrev pub refusal : ℕ → Reply
@@ -63,7 +62,7 @@ inRange f = leZ (negsuc 4199999999999999) f && leZ f (pos 4200000000000000)
 -- the lowest position whose fee is outside its range, or the number of fees
 unfoldable pub firstOutside : List ℤ → ℕ
 firstOutside [] = 0
-firstOutside (f ∷ fs) = pick (inRange f) (suc (firstOutside fs)) 0
+firstOutside (f ∷ fs) = cond (inRange f) (suc (firstOutside fs)) 0
 
 -- 3: "a number above is outside its range"
 unfoldable pub anyOutside : List ℤ → Bool

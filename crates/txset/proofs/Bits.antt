@@ -1,6 +1,6 @@
 -- The binary digits of one number, over any width k. Assumes nothing.
 use mathlib.Core.Path.{_≡_, refl, sym, ap, ap₂, _∙_, subst}
-use mathlib.Core.Bool.{Bool, true, false, not, _&&_, _||_, and-true, and-self}
+use mathlib.Core.Bool.{Bool, true, false, cond, not, _&&_, _||_, and-true, and-self}
 use mathlib.Core.Logic.{⊎-elim}
 use Prim.Native.Nat.{ℕ, zero, suc, _+_, _-_, _*_, _/_, _%_, _^_, _≤_, _<_}
 use native.Mathlib.Nat.{div-div-eq-div-mul, pow-succ', div-one, div-eq-of-lt, lt-of-lt-of-le, one-mul, mod-eq-of-lt, sub-zero}
@@ -11,9 +11,11 @@ use lib.Dec.{eqb, ltb, eqb·suc-suc, eqb·suc-zero}
 use lib.Bits.{bitAnd, bitOr, and-shr, or-shr, and-mod, or-mod, and-mask}
 use lib.Count.{ones, ones-step, trailingZeros, under}
 use borrow.Author.Tests.{ne-eqb, eq-eqb, lt-ltb, le-ltb, not-false}
-use Rattle.txset.specs.Below.{pickℕ, bit, anyFrom, countFrom, firstFrom}
+use Rattle.lists.specs.Below.{bit, anyFrom, countFrom, firstFrom}
 use Rattle.txset.specs.Sets.{has}
-use Rattle.txset.proofs.Below.{clash, lt-or-ge, count-shift, count-ext, first-shift, first-ext, none-at, First, first-is, first-has, first-below}
+use Rattle.lists.proofs.Bools.{clash}
+use Rattle.lists.proofs.Below.{count-shift, count-ext, first-shift, first-ext, none-at, First, first-is, first-has, first-below}
+use Rattle.lists.proofs.Numbers.{lt-or-ge}
 
 -- a digit of one place: what the operations give there
 or-digit : (x y : ℕ) → x < 2 → y < 2 → eqb (bitOr x y) 1 ≡ (eqb x 1 || eqb y 1)
@@ -38,7 +40,7 @@ and-digit (suc zero) (suc (suc y)) h k = absurd (omega arith)
 pub record Digit (x : ℕ) : Type 0 where
   pub value : x ≡ bit (eqb x 1)
   pub other : eqb (1 - x) 1 ≡ not (eqb x 1)
-  pub zeros : (t : ℕ) → under x t ≡ pickℕ (eqb x 1) 0 (suc t)
+  pub zeros : (t : ℕ) → under x t ≡ cond (eqb x 1) 0 (suc t)
 
 digit : (x : ℕ) → x < 2 → Digit x
 digit zero h = record { value = refl; other = refl; zeros = λ t. refl }
@@ -171,7 +173,7 @@ unfolding trailingZeros firstFrom
 trailing-first zero a = refl
 trailing-first (suc k) a =
     digit (a % 2) (omega arith) .zeros (trailingZeros k (a / 2))
-    ∙ ap₂ (λ (b : Bool) (n : ℕ). pickℕ b 0 n) (sym (has-low a))
+    ∙ ap₂ (λ (b : Bool) (n : ℕ). cond b 0 n) (sym (has-low a))
     (ap suc (trailing-first k (a / 2))
     ∙ sym
     (first-shift (has a) 1 k 0

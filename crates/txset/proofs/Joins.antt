@@ -10,7 +10,7 @@ use lib.ListN.{length}
 use borrow.Author.Tests.{lt-ltb, le-ltb, eq-eqb, ne-eqb}
 use Rattle.txset.specs.declared.TxSet.{TxSet}
 use Rattle.txset.specs.Sets.{positions, isPosition, mem, isEmpty, lowestOf, setAt, putAt, Joined}
-use Rattle.txset.proofs.Below.{lt-or-ge, by-position, below-here, below-else}
+use Rattle.lists.proofs.Numbers.{lt-or-ge, by-number, below-here, below-else}
 use Rattle.txset.proofs.Sets.{mem-past, empty-mem, length-put, put-at, put-else, at-past}
 use Rattle.txset.proofs.Walk.{lowest-mem}
 
@@ -50,7 +50,7 @@ module _
   turn-by : (a i : ℕ) → i < length ws
       → (mem (setAt (putAt ws p u) i) a || (mem next i && mem extra a)) ≡ (mem (setAt ws i) a || (mem rest i && mem extra a))
   turn-by a =
-      by-position
+      by-number
       (λ i. i < length ws
       → (mem (setAt (putAt ws p u) i) a || (mem next i && mem extra a)) ≡ (mem (setAt ws i) a || (mem rest i && mem extra a)))
       p
@@ -111,7 +111,7 @@ pub turned-more : (f : ℕ → ℕ → Bool) (i : ℕ) (own single : TxSet) {old
 turned-more f i own single l long has-own has-i join h a j =
     joined-at long join a j
     ∙ ap₂ _||_ (h a j) (ap₂ _&&_ (has-own a) (has-i j))
-    ∙ by-position (λ j. ((ltb j i && f j a) || (f i a && (isPosition j && eqb j i))) ≡ (ltb j (i + 1) && f j a)) i
+    ∙ by-number (λ j. ((ltb j i && f j a) || (f i a && (isPosition j && eqb j i))) ≡ (ltb j (i + 1) && f j a)) i
     (rw (le-ltb i i (omega arith), lt-ltb i positions l, eq-eqb i i refl, below-here i) (and-true (f i a)))
     (λ j n. rw (ne-eqb j i (λ e. n (sym e)), and-false (isPosition j), and-false (f i a), below-else j i n) (or-false (ltb j i && f j a)))
     j

@@ -1,10 +1,6 @@
-pub mod Below
 pub mod Bits
 pub mod Words
 pub mod Sets
 pub mod Walk
 pub mod Joins
-pub mod Lists
-pub mod Ranges
-pub mod Bools
 pub mod Theorems

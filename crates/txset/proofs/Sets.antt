@@ -10,11 +10,12 @@ use lib.Seq.{getD-set-same, getD-set-other}
 use native.Mathlib.Omega.{arith}
 use borrow.Author.Tests.{lt-ltb, not-true}
 use Rattle.txset.specs.declared.TxSet.{TxSet}
-use Rattle.txset.specs.Lists.{elem}
-use Rattle.txset.specs.Below.{anyFrom}
+use Rattle.lists.specs.Lists.{elem}
+use Rattle.lists.specs.Below.{anyFrom}
 use Rattle.txset.specs.Sets.{words, positions, isPosition, mem, members, size, isEmpty, isSubset, overlap, setAt, putAt}
-use Rattle.txset.proofs.Below.{clash, lt-or-ge, but-not, all-any, any-ext, none-at, at-none, all-at, at-all, list-ext, count-list}
-use Rattle.txset.proofs.Below.{elem-in, elem-out, ascending, list-ascending, count-without}
+use Rattle.lists.proofs.Bools.{clash, but-not}
+use Rattle.lists.proofs.Below.{all-any, any-ext, none-at, at-none, all-at, at-all, list-ext, count-list, elem-in, elem-out, ascending, list-ascending, count-without}
+use Rattle.lists.proofs.Numbers.{lt-or-ge}
 use Rattle.txset.proofs.Words.{Fits, hasIn-past, hasIn-zeros}
 
 -- a set's words are those of a machine

@@ -8,9 +8,9 @@ use lib.Dec.{eqb}
 use lib.ListN.{length}
 use borrow.Author.Tests.{not-true, not-false}
 use Rattle.txset.specs.declared.TxSet.{TxSet}
-use Rattle.txset.specs.Below.{anyFrom}
+use Rattle.lists.specs.Below.{anyFrom}
 use Rattle.txset.specs.Sets.{positions, mem, members, size, isEmpty, lowestOf}
-use Rattle.txset.proofs.Below.{first-has, first-below, first-is, list-nil, list-next}
+use Rattle.lists.proofs.Below.{first-has, first-below, first-is, list-nil, list-next}
 use Rattle.txset.proofs.Sets.{size-members}
 
 -- the lowest is a member, a position, and the first

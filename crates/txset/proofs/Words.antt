@@ -11,10 +11,12 @@ use lib.ListN.{length, getD, replicate, List·getD-eq-default, length-append, le
 use lib.Bits.{bitAnd, bitOr, and-zero-l}
 use lib.Count.{ones, trailingZeros, trailing-of-zero}
 use borrow.Author.Tests.{ne-eqb, eq-eqb, lt-ltb, le-ltb, ltb-true, ltb-false, eqb-true, eqb-false}
-use Rattle.txset.specs.Below.{pickℕ, anyFrom, countFrom, firstFrom, listFrom}
+use Rattle.lists.specs.Below.{anyFrom, countFrom, firstFrom, listFrom}
 use Rattle.txset.specs.Sets.{has, hasIn}
-use Rattle.txset.proofs.Below.{lt-or-ge, some, headOr, some-append, some-map, head-append, head-map, not-or}
-use Rattle.txset.proofs.Below.{list-none, list-ext, list-split, list-shift, count-list, any-list, first-list}
+use Rattle.lists.proofs.Bools.{not-or, cond-not}
+use Rattle.lists.proofs.Numbers.{lt-or-ge, ltb-same, eqb-same}
+use Rattle.lists.proofs.Below.{some, headOr, some-append, some-map, head-append, head-map}
+use Rattle.lists.proofs.Below.{list-none, list-ext, list-split, list-shift, count-list, any-list, first-list}
 use Rattle.txset.proofs.Bits.{has-or, has-and, has-less, has-nil, has-pow, has-below, has-clear, zero-any, ones-count}
 use Rattle.txset.proofs.Bits.{trailing-first, trailing-is, trailing-lt}
 
@@ -97,21 +99,6 @@ hasIn-zeros (suc k) =
     (λ i. hasIn-high 0 (replicate k 0) i ∙ hasIn-zeros k i)
 
 -- ---- the positions below n, and the position p alone, in k words
-
--- two tests that say the same are equal
-ltb-same : (a b c d : ℕ) → (a < b → c < d) → (c < d → a < b) → ltb a b ≡ ltb c d
-ltb-same a b c d f g =
-    ⊎-elim
-    (λ l. lt-ltb a b l ∙ sym (lt-ltb c d (f l)))
-    (λ l. le-ltb a b l ∙ sym (le-ltb c d (⊎-elim (λ m. absurd (not-le-of-lt (g m) l)) (λ m. m) (lt-or-ge c d))))
-    (lt-or-ge a b)
-
-eqb-same : (a b c d : ℕ) → (a ≡ b → c ≡ d) → (c ≡ d → a ≡ b) → eqb a b ≡ eqb c d
-eqb-same a b c d f g = go (eqb a b) refl
-  where
-    go : (t : Bool) → eqb a b ≡ t → eqb a b ≡ eqb c d
-    go true e = e ∙ sym (eq-eqb c d (f (eqb-true a b e)))
-    go false e = e ∙ sym (ne-eqb c d (λ z. eqb-false a b e (g z)))
 
 -- the positions below n
 abbrev pub fullWords : ℕ → ℕ → List ℕ
@@ -212,19 +199,15 @@ none-words (w ∷ ws) h =
 -- the first, or the end where there is none
 abbrev pub firstIn : List ℕ → ℕ
 firstIn [] = 0
-firstIn (w ∷ ws) = pickℕ (eqb w 0) (64 + firstIn ws) (trailingZeros 64 w)
+firstIn (w ∷ ws) = cond (eqb w 0) (64 + firstIn ws) (trailingZeros 64 w)
 
 -- the last word needs no test
 pub first-last : (w : ℕ) → firstIn (w ∷ []) ≡ trailingZeros 64 w
 first-last w = go (eqb w 0) refl
   where
-    go : (b : Bool) → eqb w 0 ≡ b → pickℕ b 64 (trailingZeros 64 w) ≡ trailingZeros 64 w
+    go : (b : Bool) → eqb w 0 ≡ b → cond b 64 (trailingZeros 64 w) ≡ trailingZeros 64 w
     go true e = sym (ap (trailingZeros 64) (eqb-true w 0 e) ∙ trailing-of-zero 64)
     go false e = refl
-
-pick-not : (b : Bool) (m n : ℕ) → pickℕ b m n ≡ pickℕ (not b) n m
-pick-not true m n = refl
-pick-not false m n = refl
 
 pub first-words : (ws : List ℕ) → Fits ws → firstFrom (hasIn ws) (64 * length ws) 0 ≡ firstIn ws
 first-words [] h = first-list (hasIn []) 0 0 ∙ ap (headOr 0) (list-none (hasIn []) 0)
@@ -234,9 +217,9 @@ first-words (w ∷ ws) h =
     let e : 0 + 64 * suc (length ws) ≡ 64 + (0 + 64 * length ws) = omega arith in
     first-list (hasIn (w ∷ ws)) (64 * suc (length ws)) 0 ∙ ap₂ headOr e (list-words w ws (length ws))
     ∙ head-append (64 + (0 + 64 * length ws)) 64 low (map (λ j. 64 + j) rest)
-    ∙ pick-not (some low) (headOr 64 low) (headOr (64 + (0 + 64 * length ws)) (map (λ j. 64 + j) rest))
-    ∙ ap (λ (b : Bool). pickℕ b (headOr (64 + (0 + 64 * length ws)) (map (λ j. 64 + j) rest)) (headOr 64 low)) (sym (zero-some w (h 0)))
-    ∙ ap₂ (λ (m n : ℕ). pickℕ (eqb w 0) m n)
+    ∙ cond-not (some low) (headOr 64 low) (headOr (64 + (0 + 64 * length ws)) (map (λ j. 64 + j) rest))
+    ∙ ap (λ (b : Bool). cond b (headOr (64 + (0 + 64 * length ws)) (map (λ j. 64 + j) rest)) (headOr 64 low)) (sym (zero-some w (h 0)))
+    ∙ ap₂ (λ (m n : ℕ). cond (eqb w 0) m n)
     (head-map (λ j. 64 + j) (0 + 64 * length ws) rest
     ∙ ap (λ (n : ℕ). 64 + n) (sym (first-list (hasIn ws) (64 * length ws) 0) ∙ first-words ws (λ j. h (suc j))))
     (sym (trailing-first 64 w ∙ first-list (has w) 64 0))
@@ -251,7 +234,7 @@ clearFirst (w ∷ ws) = cond (eqb w 0) (w ∷ clearFirst ws) (bitAnd w (w - 1) �
 clear-step : (w : ℕ) (ws : List ℕ) → w < 2 ^ 64 → (b : Bool) → eqb w 0 ≡ b
     → ((i : ℕ) → hasIn (clearFirst ws) i ≡ (hasIn ws i && not (eqb i (firstIn ws))))
     → (i : ℕ) → hasIn (cond b (w ∷ clearFirst ws) (bitAnd w (w - 1) ∷ ws)) i
-    ≡ (hasIn (w ∷ ws) i && not (eqb i (pickℕ b (64 + firstIn ws) (trailingZeros 64 w))))
+    ≡ (hasIn (w ∷ ws) i && not (eqb i (cond b (64 + firstIn ws) (trailingZeros 64 w))))
 clear-step w ws g true e h =
     let z : (i : ℕ) → has w i ≡ false = λ i. ap (λ (n : ℕ). has n i) (eqb-true w 0 e) ∙ has-nil i in
     by-word (λ i. hasIn (w ∷ clearFirst ws) i ≡ (hasIn (w ∷ ws) i && not (eqb i (64 + firstIn ws))))

@@ -1,3 +1,1 @@
-pub mod Below
-pub mod Lists
 pub mod Sets

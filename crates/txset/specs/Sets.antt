@@ -9,7 +9,7 @@ use mathlib.Core.List.{List, [], _∷_}
 use lib.Dec.{eqb, ltb}
 use lib.ListN.{length, getD, set}
 use Rattle.txset.specs.declared.TxSet.{TxSet}
-use Rattle.txset.specs.Below.{anyFrom, allFrom, countFrom, firstFrom, listFrom}
+use Rattle.lists.specs.Below.{anyFrom, allFrom, countFrom, firstFrom, listFrom}
 
 -- whether the i-th binary digit of a is 1
 unfoldable pub has : ℕ → ℕ → Bool

@@ -1,4 +1,4 @@
--- Laws of lists of positions (specs/Lists.antt): a property of some or of each element, membership, no element twice, and what stands before what.
+-- Laws of lists (specs/Lists.antt): a property of some or of each element, membership, no element twice, and what stands before what.
 -- Assumes nothing.
 use mathlib.Core.Path.{_≡_, refl, sym, ap, ap₂, _∙_}
 use mathlib.Core.Bool.{Bool, true, false, not, _&&_, _||_, or-false, or-true, or-assoc, and-false, and-assoc, false≢true, and-eq-true-iff}
@@ -10,7 +10,9 @@ use native.Mathlib.Omega.{arith}
 use lib.Dec.{eqb}
 use lib.ListN.{length, getD}
 use borrow.Author.Tests.{eq-eqb, ne-eqb, eqb-true, eqb-false}
-use Rattle.txset.specs.Lists.{anyOf, allOf, elem, distinct, same}
+use Rattle.lists.specs.Lists.{anyOf, allOf, elem, distinct, same}
+use Rattle.lists.proofs.Bools.{clash, or-left, or-right}
+use Rattle.lists.proofs.Numbers.{flip}
 
 -- ---- two lists together
 
@@ -63,14 +65,6 @@ elem-at (x ∷ xs) (suc k) h = elem-tail (getD xs k 0) x xs (elem-at xs k (le-of
 
 -- ---- no element twice
 
--- two numbers may be compared either way
-pub flip : (x y : ℕ) → eqb x y ≡ eqb y x
-flip x y = go (eqb y x) refl
-  where
-    go : (b : Bool) → eqb y x ≡ b → eqb x y ≡ b
-    go true e = eq-eqb x y (sym (eqb-true y x e))
-    go false e = ne-eqb x y (λ p. eqb-false y x e (sym p))
-
 -- one more at the end: it is none of the others
 pub distinct-snoc : (xs : List ℕ) (y : ℕ) → distinct (xs ++ (y ∷ [])) ≡ (distinct xs && not (elem y xs))
 unfolding distinct elem anyOf
@@ -89,10 +83,7 @@ distinct-snoc (x ∷ xs) y =
 -- what has an element twice has it twice with more behind it
 pub distinct-front : (xs ys : List ℕ) → distinct xs ≡ false → distinct (xs ++ ys) ≡ false
 unfolding distinct
-distinct-front [] ys e = absurd (clash e)
-  where
-    clash : true ≡ false → ⊥
-    clash q = let z : _≡_ {A = ℕ} 0 1 = cc in omega arith
+distinct-front [] ys e = clash refl e
 distinct-front (x ∷ xs) ys e =
     ap (λ (b : Bool). not b && distinct (xs ++ ys)) (elem-append x xs ys) ∙ go (elem x xs) (distinct xs) e (distinct-front xs ys)
   where
@@ -105,6 +96,25 @@ distinct-front (x ∷ xs) ys e =
 -- each stands behind those below n on which it depends
 abbrev pub After : ℕ → (ℕ → ℕ → Bool) → List ℕ → Type 0
 After n dep l = (xs ys : List ℕ) (i a : ℕ) → l ≡ xs ++ (i ∷ ys) → a < n → dep i a ≡ true → (a ≡ i → ⊥) → elem a xs ≡ true
+
+-- ---- some and each, by the elements
+
+-- no element has it: none that is in the list
+pub any-none : (f : ℕ → Bool) (xs : List ℕ) → anyOf f xs ≡ false → (i : ℕ) → elem i xs ≡ true → f i ≡ false
+unfolding elem anyOf
+any-none f [] n i e = clash e refl
+any-none f (x ∷ xs) n i e = go (eqb i x) refl (any-none f xs (or-right (f x) (anyOf f xs) n) i)
+  where
+    go : (b : Bool) → eqb i x ≡ b → (elem i xs ≡ true → f i ≡ false) → f i ≡ false
+    go true d h = ap f (eqb-true i x d) ∙ or-left (f x) (anyOf f xs) n
+    go false d h = h (ap (λ (b : Bool). b || elem i xs) (sym d) ∙ e)
+
+pub none-any : (f : ℕ → Bool) (xs : List ℕ) → ((i : ℕ) → elem i xs ≡ true → f i ≡ false) → anyOf f xs ≡ false
+unfolding elem anyOf
+none-any f [] h = refl
+none-any f (x ∷ xs) h =
+    ap (λ (b : Bool). b || anyOf f xs) (h x (ap (λ (b : Bool). b || anyOf (eqb x) xs) (eq-eqb x x refl)))
+    ∙ none-any f xs (λ i e. h i (ap (λ (b : Bool). eqb i x || b) e ∙ or-true (eqb i x)))
 
 -- ---- tables
 

@@ -1,8 +1,9 @@
--- Lists of positions, tested element by element. Assumes nothing.
+-- Lists tested element by element, lists of numbers with no number twice, and a room whose start is written anew. Assumes nothing.
 use Prim.Native.Nat.{ℕ, max}
 use mathlib.Core.Bool.{Bool, true, false, not, _&&_, _||_}
-use mathlib.Core.List.{List, [], _∷_}
-use lib.Dec.{eqb, ltb}
+use mathlib.Core.List.{List, [], _∷_, _++_}
+use lib.Dec.{eqb}
+use lib.ListN.{length, drop}
 
 -- whether some element has the property
 unfoldable pub anyOf : {A : Type 0} → (A → Bool) → List A → Bool
@@ -34,3 +35,7 @@ same [] [] = true
 same [] (y ∷ ys) = false
 same (x ∷ xs) [] = false
 same (x ∷ xs) (y ∷ ys) = eqb x y && same xs ys
+
+-- a room once `new` was written at its start: the rest is as it was
+abbrev pub overwrite : {A : Type 0} → List A → List A → List A
+overwrite new room = new ++ drop (length new) room

@@ -1,46 +1,19 @@
--- Laws of specs/Below.antt, for any property of positions. The list of the positions that have it is the ground: how many there are, whether
+-- Laws of specs/Below.antt, for any property of numbers. The list of those that have it is the ground: how many there are, whether
 -- there is any, and the first are read from that list. Assumes nothing.
-use mathlib.Core.Path.{_≡_, refl, sym, ap, ap₂, _∙_, subst}
-use mathlib.Core.Bool.{Bool, true, false, not, _&&_, _||_, and-true, and-false, or-false}
-use mathlib.Core.Logic.{_⊎_, inl, inr, ⊎-elim}
+use mathlib.Core.Path.{_≡_, refl, sym, ap, ap₂, _∙_}
+use mathlib.Core.Bool.{Bool, true, false, cond, not, _&&_, _||_, and-true, and-false, or-false}
+use mathlib.Core.Logic.{⊎-elim}
 use mathlib.Core.List.{List, [], _∷_, _++_, map}
-use Prim.Native.Nat.{ℕ, zero, suc, _+_, _-_, _≤_, _<_, zero-le, suc-le-suc}
+use Prim.Native.Nat.{ℕ, zero, suc, _+_, _-_, _≤_, _<_}
 use native.Mathlib.Nat.{add-zero, zero-add, suc-add, add-suc, eq-or-lt-of-le, le-antisymm}
 use native.Mathlib.Omega.{arith}
-use lib.Dec.{T, eqb, ltb, leb}
+use lib.Dec.{eqb, ltb, leb}
 use lib.ListN.{length, length-append, length-map}
-use borrow.Author.Tests.{lt-ltb, le-ltb, ltb-true, ltb-false, eq-eqb, ne-eqb, eqb-true, eqb-false, le-leb, not-true, not-false}
-use Rattle.txset.specs.Lists.{anyOf, elem}
-use Rattle.txset.specs.Below.{pickℕ, keepIf, bit, anyFrom, allFrom, countFrom, firstFrom, listFrom}
-
--- a Bool is not both true and false
-pub clash {ℓ} : {A : Type ℓ} {b : Bool} → b ≡ true → b ≡ false → A
-clash p q = absurd (subst T (sym p ∙ q) tt)
-
--- two numbers, in order or not
-pub lt-or-ge : (a b : ℕ) → (a < b) ⊎ (b ≤ a)
-lt-or-ge a zero = inr zero-le
-lt-or-ge zero (suc b) = inl (suc-le-suc zero-le)
-lt-or-ge (suc a) (suc b) = ⊎-elim (λ p. inl (suc-le-suc p)) (λ q. inr (suc-le-suc q)) (lt-or-ge a b)
-
--- what holds at i and at every other position holds at each
-pub by-position : (P : ℕ → Type 0) (i : ℕ) → P i → ((j : ℕ) → (i ≡ j → ⊥) → P j) → (j : ℕ) → P j
-by-position P i p q j = go (eqb i j) refl
-  where
-    go : (b : Bool) → eqb i j ≡ b → P j
-    go true e = let z : i ≡ j = eqb-true i j e in rw z at p
-    go false e = q j (eqb-false i j e)
-
--- below i + 1: i, and what is below i
-pub below-here : (i : ℕ) → ltb i (i + 1) ≡ true
-below-here i = lt-ltb i (i + 1) (omega arith)
-
-pub below-else : (j i : ℕ) → (i ≡ j → ⊥) → ltb j (i + 1) ≡ ltb j i
-below-else j i n =
-    ⊎-elim
-    (λ l. lt-ltb j (i + 1) (omega arith) ∙ sym (lt-ltb j i l))
-    (λ l. le-ltb j (i + 1) (⊎-elim (λ m. absurd (n (omega arith))) (λ m. m) (lt-or-ge j (i + 1))) ∙ sym (le-ltb j i l))
-    (lt-or-ge j i)
+use borrow.Author.Tests.{lt-ltb, le-ltb, ltb-true, ltb-false, eq-eqb, ne-eqb, le-leb, not-true, not-false}
+use Rattle.lists.specs.Lists.{anyOf, elem}
+use Rattle.lists.specs.Below.{keepIf, bit, anyFrom, allFrom, countFrom, firstFrom, listFrom}
+use Rattle.lists.proofs.Bools.{clash, not-or, but-not}
+use Rattle.lists.proofs.Numbers.{lt-or-ge}
 
 -- whether a list has an element
 abbrev pub some : List ℕ → Bool
@@ -52,7 +25,7 @@ abbrev pub headOr : ℕ → List ℕ → ℕ
 headOr e [] = e
 headOr e (x ∷ xs) = x
 
--- f and g agree at the positions i, .., i + k - 1
+-- f and g agree at the numbers i, .., i + k - 1
 abbrev pub Agree : (ℕ → Bool) → (ℕ → Bool) → ℕ → ℕ → Type 0
 Agree f g k i = (j : ℕ) → i ≤ j → j < i + k → f j ≡ g j
 
@@ -65,7 +38,7 @@ pub some-map : (h : ℕ → ℕ) (l : List ℕ) → some (map h l) ≡ some l
 some-map h [] = refl
 some-map h (x ∷ l) = refl
 
-pub head-append : (e d : ℕ) (l m : List ℕ) → headOr e (l ++ m) ≡ pickℕ (some l) (headOr d l) (headOr e m)
+pub head-append : (e d : ℕ) (l m : List ℕ) → headOr e (l ++ m) ≡ cond (some l) (headOr d l) (headOr e m)
 head-append e d [] m = refl
 head-append e d (x ∷ l) m = refl
 
@@ -83,7 +56,7 @@ some-keep : (b : Bool) (i : ℕ) (l : List ℕ) → some (keepIf b i l) ≡ (b |
 some-keep true i l = refl
 some-keep false i l = refl
 
-head-keep : (b : Bool) (e i : ℕ) (l : List ℕ) → headOr e (keepIf b i l) ≡ pickℕ b i (headOr e l)
+head-keep : (b : Bool) (e i : ℕ) (l : List ℕ) → headOr e (keepIf b i l) ≡ cond b i (headOr e l)
 head-keep true e i l = refl
 head-keep false e i l = refl
 
@@ -113,18 +86,8 @@ unfolding firstFrom listFrom
 first-list f zero i = sym (add-zero i)
 first-list f (suc k) i =
     let e : suc i + k ≡ i + suc k = omega arith in
-    ap (pickℕ (f i) i) (first-list f k (suc i) ∙ ap (λ (n : ℕ). headOr n (listFrom f k (suc i))) e)
+    ap (cond (f i) i) (first-list f k (suc i) ∙ ap (λ (n : ℕ). headOr n (listFrom f k (suc i))) e)
     ∙ sym (head-keep (f i) (i + suc k) i (listFrom f k (suc i)))
-
--- neither
-pub not-or : (b c : Bool) → not (b || c) ≡ (not b && not c)
-not-or true c = refl
-not-or false c = refl
-
--- one without the other, as the failure of an implication
-pub but-not : (b c : Bool) → (b && not c) ≡ not (not b || c)
-but-not true c = refl
-but-not false c = refl
 
 -- all have it exactly if none lacks it
 pub all-any : (f : ℕ → Bool) (k i : ℕ) → allFrom f k i ≡ not (anyFrom (λ j. not (f j)) k i)
@@ -157,7 +120,7 @@ list-split f (suc j) k i =
     ∙ ap (keepIf (f i) i) (list-split f j k (suc i) ∙ ap (λ (n : ℕ). listFrom f j (suc i) ++ listFrom f k n) e)
     ∙ append-keep (f i) i (listFrom f j (suc i)) (listFrom f k (i + suc j))
 
--- a range moved by d: the positions are moved by d
+-- a range moved by d: the numbers are moved by d
 pub list-shift : (f : ℕ → Bool) (d k i : ℕ) → listFrom f k (d + i) ≡ map (λ j. d + j) (listFrom (λ j. f (d + j)) k i)
 unfolding listFrom
 list-shift f d zero i = refl
@@ -206,14 +169,14 @@ first-shift f d k i =
 
 -- ---- the first
 
--- p is the first position of i, .., i + k - 1 that has f, or i + k where none has
+-- p is the first number of i, .., i + k - 1 that has f, or i + k where none has
 pub record First (f : ℕ → Bool) (k i p : ℕ) : Type 0 where
   pub from : i ≤ p
   pub to : p ≤ i + k
   pub before : (j : ℕ) → i ≤ j → j < p → f j ≡ false
   pub at : p < i + k → f p ≡ true
 
-first-step : (f : ℕ → Bool) (k i q : ℕ) (b : Bool) → f i ≡ b → First f k (suc i) q → First f (suc k) i (pickℕ b i q)
+first-step : (f : ℕ → Bool) (k i q : ℕ) (b : Bool) → f i ≡ b → First f k (suc i) q → First f (suc k) i (cond b i q)
 first-step f k i q true e h =
     record { from = omega arith; to = omega arith; before = λ j a b. absurd (omega arith); at = λ _. e }
 first-step f k i q false e h =
@@ -238,9 +201,9 @@ first-unique f k i p h = le-antisymm (no-less p (firstFrom f k i) h (first-is f 
     no-less p q h g =
         ⊎-elim (λ l. clash (h .at (omega (arith, g .to))) (g .before p (h .from) l)) (λ l. l) (lt-or-ge p q)
 
--- ---- any and all, by their positions
+-- ---- any and all, by their numbers
 
-any-step : (k i q : ℕ) (b c : Bool) → c ≡ ltb q (suc i + k) → (b || c) ≡ ltb (pickℕ b i q) (i + suc k)
+any-step : (k i q : ℕ) (b c : Bool) → c ≡ ltb q (suc i + k) → (b || c) ≡ ltb (cond b i q) (i + suc k)
 any-step k i q true c e = sym (lt-ltb i (i + suc k) (omega arith))
 any-step k i q false c e = e ∙ ap (ltb q) (omega arith)
 
@@ -257,7 +220,7 @@ first-below f k i h = ltb-true (firstFrom f k i) (i + k) (sym (any-first f k i) 
 pub first-has : (f : ℕ → Bool) (k i : ℕ) → anyFrom f k i ≡ true → f (firstFrom f k i) ≡ true
 first-has f k i h = first-is f k i .at (first-below f k i h)
 
--- where there is none, no position has it, and the other way
+-- where there is none, no number has it, and the other way
 pub none-at : (f : ℕ → Bool) (k i : ℕ) → anyFrom f k i ≡ false → (j : ℕ) → i ≤ j → j < i + k → f j ≡ false
 none-at f k i h j a b =
     let e : i + k ≤ firstFrom f k i = ltb-false (firstFrom f k i) (i + k) (sym (any-first f k i) ∙ h) in
@@ -278,7 +241,7 @@ any-at f k i j a b h = go (anyFrom f k i) refl
     go true e = e
     go false e = clash h (none-at f k i e j a b)
 
--- where all have it, each position has it, and the other way
+-- where all have it, each number has it, and the other way
 pub all-at : (f : ℕ → Bool) (k i : ℕ) → allFrom f k i ≡ true → (j : ℕ) → i ≤ j → j < i + k → f j ≡ true
 all-at f k i h j a b =
     not-false (f j) (none-at (λ j. not (f j)) k i (not-true (anyFrom (λ j. not (f j)) k i) (sym (all-any f k i) ∙ h)) j a b)
@@ -286,9 +249,9 @@ all-at f k i h j a b =
 pub at-all : (f : ℕ → Bool) (k i : ℕ) → ((j : ℕ) → i ≤ j → j < i + k → f j ≡ true) → allFrom f k i ≡ true
 at-all f k i h = all-any f k i ∙ ap not (at-none (λ j. not (f j)) k i (λ j a b. ap not (h j a b)))
 
--- ---- one position taken away
+-- ---- one number taken away
 
--- the list in two parts, around the position p
+-- the list in two parts, around the number p
 pub list-cut : (f : ℕ → Bool) (k i p : ℕ) → i ≤ p → p < i + k
     → listFrom f k i ≡ listFrom f (p - i) i ++ keepIf (f p) p (listFrom f (i + k - suc p) (suc p))
 unfolding listFrom
@@ -299,7 +262,7 @@ list-cut f k i p a b =
     ap (λ (n : ℕ). listFrom f n i) e ∙ list-split f (p - i) (suc m) i
     ∙ ap (λ (n : ℕ). listFrom f (p - i) i ++ listFrom f (suc m) n) d
 
--- g is f without the position p, which f has
+-- g is f without the number p, which f has
 module _
     (f g : ℕ → Bool)
     (k i p : ℕ)
@@ -334,7 +297,7 @@ module _
       let less : length (listFrom g k i) ≡ length low + length high = ap length list-without ∙ length-append low high in
       omega (arith, count-list f k i, count-list g k i)
 
--- no position has it: an empty list
+-- no number has it: an empty list
 pub list-nil : (f : ℕ → Bool) (k i : ℕ) → anyFrom f k i ≡ false → listFrom f k i ≡ []
 list-nil f k i h = none (listFrom f k i) (sym (any-list f k i) ∙ h)
   where
@@ -365,7 +328,7 @@ elem-keep false j i l = refl
 elem-skip : (b : Bool) (j i : ℕ) (l : List ℕ) → (j ≡ i → ⊥) → elem j (keepIf b i l) ≡ elem j l
 elem-skip b j i l n = elem-keep b j i l ∙ ap (λ (c : Bool). b && c || elem j l) (ne-eqb j i n) ∙ ap (λ (c : Bool). c || elem j l) (and-false b)
 
--- no position out of the range is an element
+-- no number out of the range is an element
 pub elem-out : (f : ℕ → Bool) (k i j : ℕ) → (i ≤ j → j < i + k → ⊥) → elem j (listFrom f k i) ≡ false
 unfolding listFrom elem anyOf
 elem-out f zero i j n = refl
@@ -373,7 +336,7 @@ elem-out f (suc k) i j n =
     elem-skip (f i) j i (listFrom f k (suc i)) (λ e. n (omega arith) (omega arith))
     ∙ elem-out f k (suc i) j (λ a b. n (omega arith) (omega arith))
 
--- a position of the range is one exactly if it has f
+-- a number of the range is one exactly if it has f
 pub elem-in : (f : ℕ → Bool) (k i j : ℕ) → i ≤ j → j < i + k → elem j (listFrom f k i) ≡ f j
 unfolding listFrom
 elem-in f zero i j a b = absurd (omega arith)

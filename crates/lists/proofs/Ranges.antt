@@ -1,4 +1,4 @@
--- Ranges of positions of which only those below n count. Assumes nothing.
+-- Ranges of numbers of which only those below n count. Assumes nothing.
 use mathlib.Core.Path.{_≡_, sym, ap, ap₂, _∙_}
 use mathlib.Core.Bool.{Bool, true, false, _&&_}
 use mathlib.Core.List.{_++_, append-nil}
@@ -7,8 +7,8 @@ use native.Mathlib.Omega.{arith}
 use lib.Dec.{ltb}
 use lib.ListN.{length}
 use borrow.Author.Tests.{lt-ltb, le-ltb}
-use Rattle.txset.specs.Below.{bit, countFrom, listFrom}
-use Rattle.txset.proofs.Below.{list-ext, list-split, list-nil, at-none, count-list}
+use Rattle.lists.specs.Below.{bit, countFrom, listFrom}
+use Rattle.lists.proofs.Below.{list-ext, list-split, list-nil, at-none, count-list}
 
 -- f is g below n, and nothing past it
 module _ (f g : ℕ → Bool) (n m : ℕ) (h : n ≤ m) (below : (i : ℕ) → f i ≡ (ltb i n && g i)) where

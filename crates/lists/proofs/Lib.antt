@@ -1,0 +1,5 @@
+pub mod Bools
+pub mod Numbers
+pub mod Below
+pub mod Ranges
+pub mod Lists
