@@ -1,5 +1,5 @@
 -- What the writers' own contracts speak of: no contract outside this crate cites these. Assumes nothing.
-use Prim.Native.Nat.{ℕ, _+_, _≤_, min}
+use Prim.Native.Nat.{ℕ, _+_, _≤_}
 use mathlib.Core.Path.{_≡_}
 use mathlib.Core.List.{List, _∷_, _++_}
 use lib.ListN.{length, take, drop}
@@ -23,7 +23,3 @@ pub record Wrote (text : List ℕ) (at : ℕ) (old new : List ℕ) (end : ℕ) :
 -- the k-th of some numbers with commas between them
 unfoldable pub item : ℕ → ℕ → List ℕ
 item k n = cond (eqb k 0) (decimal n) (44 ∷ decimal n)
-
--- a quotient held at 2^63, one above the largest i64
-abbrev pub held : ℕ → ℕ
-held n = min n 9223372036854775808

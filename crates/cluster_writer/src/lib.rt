@@ -1,15 +1,16 @@
 // What the cluster program prints, written to the start of a room; what stands behind it there stays.
 ghost use mathlib.Core.Path.{_≡_};
-ghost use Prim.Native.Nat.{_+_, _*_, _/_, _%_, _≤_, _<_, min};
+ghost use Prim.Native.Nat.{_+_, _≤_, min};
 ghost use lib.ListN.{length};
-ghost use Rattle.feeset.specs.Total.{total};
 ghost use Rattle.cluster_writer.specs.Writing.{decimal as Text·decimal, signed as Text·signed, textLine, orderKey, rateKey, commas};
 ghost use Rattle.cluster_writer.specs.Writing.{chunkLines, allChunkLines, refusalText, shownRate};
 ghost use Rattle.cluster_writer.specs.Calls.{successPrinted, successRoom};
 ghost use Rattle.lists.specs.Lists.{overwrite};
-ghost use Rattle.cluster_writer.specs.Steps.{Room, Wrote, item, held};
+ghost use Rattle.cluster_writer.specs.Steps.{Room, Wrote, item};
 use feefrac::FeeFrac;
+use feeset::list_feerate;
 use txset::POSITIONS;
+use wide::scaled_over;
 
 // The answer line alone.
 pub fn write_refusal(number: u64, out: &mut [u8; 8192]) -> usize
@@ -94,7 +95,7 @@ fn chunk_lines(
     while k < lens.len() {
         let len = lens[k];
         let end = chunk_end(start, len, order.len());
-        let rate = sum_of(fees, sizes, &order[start..end]);
+        let rate = list_feerate(fees, sizes, &order[start..end]);
         at = one_chunk(len, rate, out, at);
         start = end;
         k += 1;
@@ -122,19 +123,6 @@ fn one_chunk(len: usize, rate: FeeFrac, out: &mut [u8], from: usize) -> usize
     rate_line(shown_rate(rate), out, at)
 }
 
-// The feerate sum of some members.
-fn sum_of(fees: &[i64], sizes: &[u64], members: &[usize]) -> FeeFrac
-    ensures { λ r. ⌜ r ≡ total (now (fees .entry)) (now (sizes .entry)) (now (members .entry)) ⌝ }
-{
-    let mut sum = FeeFrac::zero();
-    let mut i: usize = 0;
-    while i < members.len() {
-        sum = sum.add(FeeFrac::at(fees, sizes, members[i]));
-        i += 1;
-    }
-    sum
-}
-
 // fee × 4,000 / size rounded towards zero, 0 for size 0, held to the i64 range.
 pub fn shown_rate(rate: FeeFrac) -> i64
     ensures { λ r. ⌜ r ≡ shownRate rate ⌝ }
@@ -146,71 +134,17 @@ pub fn shown_rate(rate: FeeFrac) -> i64
     let fee = rate.fee;
     if fee < 0 {
         let less = 0 - (fee + 1);
-        let q = times_4000(less as u64 + 1, size);
+        let q = scaled_over(less as u64 + 1, 4000, size);
         if 9_223_372_036_854_775_807 < q {
             return i64::MIN;
         }
         return 0 - (q as i64);
     }
-    let q = times_4000(fee as u64, size);
+    let q = scaled_over(fee as u64, 4000, size);
     if 9_223_372_036_854_775_807 < q {
         return i64::MAX;
     }
     q as i64
-}
-
-// x × 4,000 / size, rounded down and held at 2^63: quotient and remainder are doubled and added to along the bits of 4,000.
-fn times_4000(x: u64, size: u64) -> u64
-    requires { ⌜ 0 < size ⌝ }
-    ensures { λ r. ⌜ r ≡ held (4000 * x / size) ⌝ }
-{
-    let whole = x / size;
-    let part = x % size;
-    let mut quotient: u64 = 0;
-    let mut rest: u64 = 0;
-    let mut bits: u64 = 4000;
-    let mut k: usize = 0;
-    while k < 12 {
-        quotient = plus(quotient, quotient, rest, rest, size);
-        rest = sum_below(rest, rest, size);
-        if bits / 2048 % 2 == 1 {
-            quotient = plus(quotient, whole, rest, part, size);
-            rest = sum_below(rest, part, size);
-        }
-        bits = bits * 2;
-        k += 1;
-    }
-    quotient
-}
-
-// quotient + more, and one more where the rests reach the size; held at 2^63.
-fn plus(quotient: u64, more: u64, rest: u64, part: u64, size: u64) -> u64
-    requires { ⌜ rest < size ⌝ }
-    requires { ⌜ part < size ⌝ }
-    ensures { λ r. ⌜ r ≡ held (quotient + more + (rest + part) / size) ⌝ }
-{
-    if 9_223_372_036_854_775_808 <= quotient {
-        return 9_223_372_036_854_775_808;
-    }
-    if 9_223_372_036_854_775_808 - quotient <= more {
-        return 9_223_372_036_854_775_808;
-    }
-    if size - rest <= part {
-        return quotient + more + 1;
-    }
-    quotient + more
-}
-
-// The sum of two rests, less the size where it reaches it.
-fn sum_below(rest: u64, part: u64, size: u64) -> u64
-    requires { ⌜ rest < size ⌝ }
-    requires { ⌜ part < size ⌝ }
-    ensures { λ r. ⌜ r ≡ (rest + part) % size ⌝ }
-{
-    if size - rest <= part {
-        return part - (size - rest);
-    }
-    rest + part
 }
 
 fn number_line(key: &[u8], number: u64, out: &mut [u8], from: usize) -> usize

@@ -1,5 +1,4 @@
 pub mod Signed
-pub mod Product
 pub mod Order
 pub mod Higher
 pub mod Lists

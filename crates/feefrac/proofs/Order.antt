@@ -9,9 +9,9 @@ use lib.IntN.{ℤ, pos, negsuc, natAbs, _*ℤ_}
 use lib.Signed.{ltZ}
 use mir.Syntax.{w64}
 use mir.Val.{SFits, toZ}
-use borrow.Author.Tests.{lt-ltb, le-ltb, ltb-true, ltb-false}
+use borrow.Author.Tests.{lt-ltb, le-ltb}
 use Rattle.feefrac.specs.Rate.{higher, rateOrder, sizeOrder, isGreater}
-use Rattle.feefrac.specs.Word.{Narrow}
+use Rattle.feefrac.specs.Narrow.{Narrow}
 use Rattle.feefrac.specs.declared.FeeFrac.{FeeFrac}
 use Rattle.feefrac.specs.declared.Ordering.the-variants.{Less, Equal, Greater}
 use Rattle.feefrac.proofs.Signed.{up, down, Le, Lt, Z, less-parts, up-product, down-product, product-fits, product-read}
@@ -30,19 +30,6 @@ module _ {m n : ℕ} where
   pub size-same : m ≤ n → n ≤ m → sizeOrder m n ≡ Equal
   unfolding sizeOrder
   size-same h k = rw (le-ltb n m h, le-ltb m n k)
-
--- sizes that stand alike have one order
-pub same-order : (m n p q : ℕ) → (n < m → q < p) → (m < n → p < q) → (m ≡ n → p ≡ q) → sizeOrder m n ≡ sizeOrder p q
-same-order m n p q f g h = go (ltb n m) (ltb m n) refl refl
-  where
-    go : (s t : Bool) → ltb n m ≡ s → ltb m n ≡ t → sizeOrder m n ≡ sizeOrder p q
-    go true t e k = size-above (ltb-true n m e) ∙ sym (size-above (f (ltb-true n m e)))
-    go false true e k = size-below (ltb-true m n k) ∙ sym (size-below (g (ltb-true m n k)))
-    go false false e k =
-        let a = ltb-false n m e in
-        let b = ltb-false m n k in
-        let q = h (omega (arith, a, b)) in
-        size-same a b ∙ sym (size-same (omega (arith, q)) (omega (arith, q)))
 
 -- ---- feerates
 

@@ -1,2 +1,2 @@
+pub mod Narrow
 pub mod Rate
-pub mod Word

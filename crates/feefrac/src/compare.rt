@@ -2,15 +2,17 @@
 // Fees of up to 35 bits and sizes of up to 28, which serves the sums of 64 of the heaviest transactions, are compared by one-word
 // products; the rest by products of two words.
 ghost use mathlib.Core.Path.{_≡_};
-ghost use mathlib.Core.Bool.{Bool, true};
-ghost use Prim.Native.Nat.{_+_, _*_, _<_};
+ghost use mathlib.Core.Bool.{true};
+ghost use Prim.Native.Nat.{_+_};
 ghost use lib.IntN.{natAbs};
 ghost use lib.Dec.{eqb};
 ghost use Rattle.feefrac.specs.Rate.{rateOrder, sizeOrder};
-ghost use Rattle.feefrac.specs.Word.{value, Narrow, Carry};
+ghost use Rattle.feefrac.specs.Narrow.{Narrow};
+ghost use Rattle.wide.specs.Words.{value};
 use crate::FeeFrac;
 use crate::Ordering;
-use crate::compare_sizes;
+use wide::Wide;
+use wide::mul_wide;
 
 // a.fee × b.size against b.fee × a.size. The wide way stands in two places: so the compiler leaves it a call, and puts the rest, which
 // is short then, into each scan.
@@ -94,67 +96,24 @@ fn magnitude(z: i64) -> u64
     z as u64
 }
 
-// A product of 128 bits in two words.
-struct Wide {
-    hi: u64,
-    lo: u64,
-}
-
-// By digits of 32 bits. The low halves add modulo two to the 64; a sum below its addend means a carry.
-fn mul_wide(x: u64, y: u64) -> Wide
-    ensures { λ r. ⌜ value r ≡ x * y ⌝ }
-{
-    let x1 = x / 4_294_967_296;
-    let x0 = x % 4_294_967_296;
-    let y1 = y / 4_294_967_296;
-    let y0 = y % 4_294_967_296;
-    let p00 = x0 * y0;
-    let p01 = x0 * y1;
-    let p10 = x1 * y0;
-    let p11 = x1 * y1;
-    let once = std::num::wrapping_add_u64(p00, p01 % 4_294_967_296 * 4_294_967_296);
-    let lo = std::num::wrapping_add_u64(once, p10 % 4_294_967_296 * 4_294_967_296);
-    let carries = carry(once, p00) + carry(lo, once);
-    let hi = p11 + p01 / 4_294_967_296 + p10 / 4_294_967_296 + carries;
-    Wide { hi, lo }
-}
-
-// 1 where a sum that wraps came out below its addend.
-fn carry(sum: u64, addend: u64) -> u64
-    ensures { λ r. ⌜ Carry sum addend r ⌝ }
-{
-    if sum < addend {
-        return 1;
-    }
-    0
-}
-
 // The order of two products.
 fn compare_words(a: Wide, b: Wide) -> Ordering
     ensures { λ r. ⌜ r ≡ sizeOrder (value a) (value b) ⌝ }
 {
-    let al = a.lo;
-    let bl = b.lo;
-    if b.hi < a.hi {
+    if b.is_below(a) {
         return Ordering::Greater;
     }
-    if a.hi < b.hi {
+    if a.is_below(b) {
         return Ordering::Less;
     }
-    compare_sizes(al, bl)
+    Ordering::Equal
 }
 
 fn both_zero(a: Wide, b: Wide) -> bool
     ensures { λ r. ⌜ r ≡ eqb (value a + value b) 0 ⌝ }
 {
-    if a.hi != 0 {
-        return false;
+    if a.is_zero() {
+        return b.is_zero();
     }
-    if a.lo != 0 {
-        return false;
-    }
-    if b.hi != 0 {
-        return false;
-    }
-    b.lo == 0
+    false
 }

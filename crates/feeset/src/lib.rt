@@ -1,4 +1,4 @@
-// The feerate of a set of members.
+// The feerate of a set of members, and of a list.
 ghost use mathlib.Core.Path.{_≡_};
 ghost use Rattle.txset.specs.Sets.{members};
 ghost use Rattle.feeset.specs.Total.{total};
@@ -15,6 +15,19 @@ pub fn set_feerate(fees: &[i64], sizes: &[u64], set: TxSet) -> FeeFrac
         let i = rest.lowest();
         rest = rest.without_lowest();
         sum = sum.add(FeeFrac::at(fees, sizes, i));
+    }
+    sum
+}
+
+// The feerate sum of the members of a list, taken in from its start.
+pub fn list_feerate(fees: &[i64], sizes: &[u64], list: &[usize]) -> FeeFrac
+    ensures { λ r. ⌜ r ≡ total (now (fees .entry)) (now (sizes .entry)) (now (list .entry)) ⌝ }
+{
+    let mut sum = FeeFrac::zero();
+    let mut i: usize = 0;
+    while i < list.len() {
+        sum = sum.add(FeeFrac::at(fees, sizes, list[i]));
+        i += 1;
     }
     sum
 }

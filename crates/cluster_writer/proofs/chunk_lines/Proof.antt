@@ -19,14 +19,14 @@ one-chunk-requires : tie.Need-one-chunk-requires Inv-loop μ-loop
 one-chunk-requires c κs =
     let end = c .before .before .before in
     let turn = end .before .before in
-    chunk-fits (turn .before .loop .inv) (turn .loop-test .taken) (end .chunk-end .ensures) (c .before .sum-of .ensures)
+    chunk-fits (turn .before .loop .inv) (turn .loop-test .taken) (end .chunk-end .ensures) (c .before .list-feerate .ensures)
 
 loop-again : tie.Need-loop-again Inv-loop μ-loop
 loop-again c =
     let sum = c .before .before .before .before in
     let end = sum .before .before in
     let turn = end .before .before in
-    chunk-wrote (turn .before .loop .inv) (turn .loop-test .taken) (end .chunk-end .ensures) (sum .sum-of .ensures) (c .before .before .one-chunk .ensures)
+    chunk-wrote (turn .before .loop .inv) (turn .loop-test .taken) (end .chunk-end .ensures) (sum .list-feerate .ensures) (c .before .before .one-chunk .ensures)
 
 same-length : tie.Need-same-length Inv-loop μ-loop
 same-length c = c .before .loop .inv .left .long

@@ -1,5 +1,5 @@
 use mathlib.Core.Path.{_≡_, sym, _∙_}
-use Prim.Native.Nat.{_*_, _/_}
+use Prim.Native.Nat.{_*_, _/_, min}
 use native.Mathlib.Omega.{arith}
 use lib.IntN.{pos, natAbs}
 use mir.Syntax.{w64}
@@ -9,7 +9,6 @@ use borrow.Author.Needs.{needs}
 use Rattle.feefrac.specs.declared.FeeFrac.{FeeFrac}
 use Rattle.feefrac.proofs.Signed.{Le, Lt, less, not-less, zero-fits, cast, more-fits, below-fits, below-cast, below-more, below-size}
 use Rattle.cluster_writer.specs.Writing.{shownRate}
-use Rattle.cluster_writer.specs.Steps.{held}
 use Rattle.cluster_writer.proofs.Rate.{turned-fits, turned-read, rate-up, rate-top, rate-down, rate-bottom}
 use Rattle.cluster_writer.proofs.shown_rate.Statement.{statement}
 use Rattle.cluster_writer.proofs.shown_rate.Tie as tie
@@ -28,22 +27,22 @@ unfolding shownRate
 returns c = rw (c .if1 .taken)
 
 -- the quotient of the sizes, by way of -(fee + 1) and as it is
-module _ (c : tie.After-times-4000) where
+module _ (c : tie.After-scaled-over) where
   abbrev rate : FeeFrac
   rate = c .before .before .before .before .args .rate
 
-  quotient : c .times-4000 .result ≡ held (4000 * natAbs (rate .fee) / rate .size)
-  quotient = rw (below-size (fee-fits (c .before .before)) (negative (c .before))) at (c .times-4000 .ensures)
+  quotient : c .scaled-over .result ≡ min (4000 * natAbs (rate .fee) / rate .size) 18446744073709551615
+  quotient = rw (below-size (fee-fits (c .before .before)) (negative (c .before))) at (c .scaled-over .ensures)
 
   some : rate .size ≡ 0 → ⊥
   some = c .before .before .before .if1 .left
 
-module _ (c : tie.After-times-40002) where
+module _ (c : tie.After-scaled-over2) where
   abbrev rate-2 : FeeFrac
   rate-2 = c .before .before .before .before .args .rate
 
-  quotient-2 : c .times-40002 .result ≡ held (4000 * natAbs (rate-2 .fee) / rate-2 .size)
-  quotient-2 = rw (toZ-ofZ (fee-fits (c .before .before))) at (c .times-40002 .ensures)
+  quotient-2 : c .scaled-over2 .result ≡ min (4000 * natAbs (rate-2 .fee) / rate-2 .size) 18446744073709551615
+  quotient-2 = rw (toZ-ofZ (fee-fits (c .before .before))) at (c .scaled-over2 .ensures)
 
   some-2 : rate-2 .size ≡ 0 → ⊥
   some-2 = c .before .before .before .if1 .left
@@ -54,7 +53,7 @@ returns-2 c = let call = c .before in sym (rate-bottom _ (some call) (quotient c
 returns-3 : tie.Need-returns-3
 returns-3 c =
     let call = c .before in
-    turned-read (call .times-4000 .result) (omega arith) ∙ sym (rate-down _ (some call) (quotient call) (negative (call .before)) (omega arith))
+    turned-read (call .scaled-over .result) (omega arith) ∙ sym (rate-down _ (some call) (quotient call) (negative (call .before)) (omega arith))
 
 returns-4 : tie.Need-returns-4
 returns-4 c = let call = c .before in sym (rate-top _ (some-2 call) (quotient-2 call) (not-negative (call .before)) (omega arith))
@@ -76,7 +75,7 @@ shown-rate-spec =
     (λ c κs. search needs)
     returns-2
     (λ c. search needs)
-    (λ c. turned-fits (c .before .times-4000 .result) (omega arith))
+    (λ c. turned-fits (c .before .scaled-over .result) (omega arith))
     returns-3
     (λ c. cast (fee-fits (c .before)) (not-negative c))
     (λ c κs. search needs)

@@ -9,7 +9,7 @@ use mir.Facts.{toZ-ofZ}
 use borrow.Author.Needs.{needs}
 use borrow.Author.Tests.{eqb-true, eqb-false}
 use Rattle.feefrac.specs.Rate.{rateOrder, sizeOrder}
-use Rattle.feefrac.specs.Word.{value}
+use Rattle.wide.specs.Words.{value}
 use Rattle.feefrac.proofs.Signed.{less, not-less, zero-fits}
 use Rattle.feefrac.proofs.Order.{size-above, size-below, size-same, both-up, both-down, up-down, down-up}
 use Rattle.feefrac.proofs.compare.compare_wide.Statement.{statement}

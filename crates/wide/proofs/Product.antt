@@ -5,12 +5,9 @@ use Prim.Native.Nat.{ℕ, _+_, _*_, _/_, _%_, _≤_, _<_}
 use native.Mathlib.Nat.{add-mul, mul-comm, mul-right-comm, mul-le-mul, div-add-mod'}
 use native.Mathlib.Omega.{arith}
 use lib.Dec.{ltb}
-use borrow.Author.Tests.{ltb-true, ltb-false}
-use Rattle.feefrac.specs.Rate.{sizeOrder}
-use Rattle.feefrac.specs.Word.{value, Carry}
-use Rattle.feefrac.specs.declared.compare.Wide.{Wide}
-use Rattle.feefrac.specs.declared.Ordering.the-variants.{Less, Greater}
-use Rattle.feefrac.proofs.Order.{size-above, size-below, same-order}
+use borrow.Author.Tests.{lt-ltb, le-ltb, ltb-true, ltb-false}
+use Rattle.wide.specs.declared.Wide.{Wide}
+use Rattle.wide.specs.Words.{value, Carry}
 
 -- ---- a carry is what a wrapped sum lost
 
@@ -52,18 +49,18 @@ by-digits x y = omega (arith, split x y, right (x / 4294967296), right (x % 4294
     right : (n : ℕ) → n * y ≡ 4294967296 * (n * (y / 4294967296)) + n * (y % 4294967296)
     right n = rw (mul-comm n y, mul-comm n (y / 4294967296), mul-comm n (y % 4294967296)) (split y n)
 
--- ---- the order of two words is that of the high ones, then of the low ones
+-- ---- the order of two numbers is that of the high words, then of the low ones
 
 module _ (a b : Wide) (ha : a .lo < 18446744073709551616) (hb : b .lo < 18446744073709551616) where
-  pub high-above : b .hi < a .hi → sizeOrder (value a) (value b) ≡ Greater
-  high-above h = size-above (omega arith)
+  pub high-below : a .hi < b .hi → ltb (value a) (value b) ≡ true
+  high-below h = lt-ltb (value a) (value b) (omega arith)
 
-  pub high-below : a .hi < b .hi → sizeOrder (value a) (value b) ≡ Less
-  high-below h = size-below (omega arith)
+  pub high-above : b .hi < a .hi → ltb (value a) (value b) ≡ false
+  high-above h = le-ltb (value a) (value b) (omega arith)
 
-  pub high-same : a .hi ≤ b .hi → b .hi ≤ a .hi → sizeOrder (a .lo) (b .lo) ≡ sizeOrder (value a) (value b)
-  high-same h k = same-order (a .lo) (b .lo) (value a) (value b) (λ l. omega arith) (λ l. omega arith) (λ l. omega arith)
-
--- three words of zero leave the fourth
-pub last-word : (a b : Wide) → a .hi ≡ 0 → a .lo ≡ 0 → b .hi ≡ 0 → b .lo ≡ value a + value b
-last-word a b p q r = omega arith
+  pub high-same : b .hi ≤ a .hi → a .hi ≤ b .hi → ltb (a .lo) (b .lo) ≡ ltb (value a) (value b)
+  high-same h k = go (ltb (a .lo) (b .lo)) refl
+    where
+      go : (t : Bool) → ltb (a .lo) (b .lo) ≡ t → t ≡ ltb (value a) (value b)
+      go true e = sym (lt-ltb (value a) (value b) (omega (arith, ltb-true (a .lo) (b .lo) e)))
+      go false e = sym (le-ltb (value a) (value b) (omega (arith, ltb-false (a .lo) (b .lo) e)))

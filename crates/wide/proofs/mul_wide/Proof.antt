@@ -3,9 +3,9 @@ use borrow.Author.Needs.{needs}
 use native.Mathlib.Omega.{arith}
 use mathlib.Core.Path.{_≡_}
 use Prim.Native.Nat.{ℕ, _+_, _*_, _/_, _%_, _≤_}
-use Rattle.feefrac.proofs.Product.{digit-product, by-digits, carry-small, carried}
-use Rattle.feefrac.proofs.compare.mul_wide.Statement.{statement}
-use Rattle.feefrac.proofs.compare.mul_wide.Tie as tie
+use Rattle.wide.proofs.Product.{digit-product, by-digits, carry-small, carried}
+use Rattle.wide.proofs.mul_wide.Statement.{statement}
+use Rattle.wide.proofs.mul_wide.Tie as tie
 
 record Small (x y : ℕ) : Type 0 where
   p00 : x % 4294967296 * (y % 4294967296) ≤ 18446744065119617025

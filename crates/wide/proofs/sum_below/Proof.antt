@@ -1,8 +1,8 @@
 use mathlib.Core.Path.{sym}
 use borrow.Author.Needs.{needs}
-use Rattle.cluster_writer.proofs.Rate.{past, below}
-use Rattle.cluster_writer.proofs.sum_below.Statement.{statement}
-use Rattle.cluster_writer.proofs.sum_below.Tie as tie
+use Rattle.wide.proofs.Quotient.{past, below}
+use Rattle.wide.proofs.sum_below.Statement.{statement}
+use Rattle.wide.proofs.sum_below.Tie as tie
 
 returns : tie.Need-returns
 returns c = sym (past (c .before .pre .0) (c .before .pre .1) (c .if1 .taken))
