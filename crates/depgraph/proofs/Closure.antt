@@ -14,14 +14,16 @@ use Rattle.txset.specs.declared.TxSet.{TxSet}
 use Rattle.lists.specs.Below.{anyFrom}
 use Rattle.txset.specs.Sets.{positions, isPosition, mem, setAt, putAt, Joined}
 use Rattle.lists.proofs.Numbers.{by-number, below-here, below-else, flip}
+use Rattle.ways.specs.Ways.{reach, isCyclic}
+use Rattle.ways.proofs.Counts.{any-more}
+use Rattle.ways.proofs.Ways.{reach-is, way-from}
 use Rattle.txset.proofs.Sets.{mem-position, length-put, put-at, put-else, at-zeros}
 use Rattle.txset.proofs.Joins.{joined-at, turned-more}
 use Rattle.depgraph.specs.declared.DepGraph.{DepGraph}
 use Rattle.depgraph.specs.Closed.{Closed}
-use Rattle.depgraph.specs.Graph.{isParent, reach, isAbove, isAncestor, isCyclic}
-use Rattle.depgraph.specs.Steps.{Holds, nothing}
-use Rattle.depgraph.proofs.Counts.{any-more}
-use Rattle.depgraph.proofs.Reach.{asked, parent-asked, above-both}
+use Rattle.depgraph.specs.Graph.{isParent, isAbove, isAncestor}
+use Rattle.depgraph.specs.Steps.{Holds, nothing, withOwn, Owning}
+use Rattle.depgraph.proofs.Parents.{among, asked, parent-asked}
 
 -- the sets hold any relation that agrees
 pub holds-as : {f g : ℕ → ℕ → Bool} {up down : List ℕ} → Holds f up down → ((i a : ℕ) → f i a ≡ g i a) → Holds g up down
@@ -45,12 +47,6 @@ taken-all ws l = record { there = omega arith; fits = l; same = take-length ws �
 -- words of zeros hold nothing
 pub zeros-hold : Holds nothing (replicate positions 0) (replicate positions 0)
 zeros-hold = record { ups = refl; downs = refl; above = at-zeros positions; below = λ i a. at-zeros positions a i }
-
--- the ancestors that are held make a graph
-pub closed-by : (ws : List ℕ) (n : ℕ) (g : DepGraph) → Taken ws n
-    → Holds (isAncestor (take n ws)) (g .ancestors) (g .descendants) × (g .cyclic ≡ isCyclic (take n ws)) → Closed (take positions ws) g
-closed-by ws n g t h =
-    rw (← t .same) (record { ancestors = h .0 .above; descendants = λ i d. h .0 .below d i; cyclic = h .1 })
 
 -- ---- link: the relation, of the members below i alone
 
@@ -102,25 +98,25 @@ own-parents ws n i {named} all met own fits l at has-all has-met has-own a =
 pub record Closing (up₀ down₀ up down : List ℕ) (k : ℕ) : Type 0 where
   pub ups : length up ≡ length up₀
   pub downs : length down ≡ length down₀
-  pub holds : (ps : List ℕ) → Holds (isParent ps) up₀ down₀ → Holds (reach ps k) up down
+  pub holds : (r : ℕ → ℕ → Bool) → Holds r up₀ down₀ → Holds (reach r k) up down
 
 pub close-start : (up down : List ℕ) → Closing up down up down 0
 unfolding reach
-close-start up down = record { ups = refl; downs = refl; holds = λ ps h. h }
+close-start up down = record { ups = refl; downs = refl; holds = λ r h. h }
 
-by-way : (ps : List ℕ) (k : ℕ) (over under : TxSet) {up down up' down' : List ℕ} → over ≡ setAt up k → under ≡ setAt down k
-    → Joined under over up up' → Joined over under down down' → Holds (reach ps k) up down → Holds (reach ps (suc k)) up' down'
+by-way : (r : ℕ → ℕ → Bool) (k : ℕ) (over under : TxSet) {up down up' down' : List ℕ} → over ≡ setAt up k → under ≡ setAt down k
+    → Joined under over up up' → Joined over under down down' → Holds (reach r k) up down → Holds (reach r (suc k)) up' down'
 unfolding reach
-by-way ps k over under {up} {down} at-up at-down join-up join-down h =
-    let has-over : (a : ℕ) → mem over a ≡ reach ps k k a = λ a. ap (λ (s : TxSet). mem s a) at-up ∙ h .above k a in
-    let has-under : (i : ℕ) → mem under i ≡ reach ps k i k = λ i. ap (λ (s : TxSet). mem s i) at-down ∙ h .below i k in
+by-way r k over under {up} {down} at-up at-down join-up join-down h =
+    let has-over : (a : ℕ) → mem over a ≡ reach r k k a = λ a. ap (λ (s : TxSet). mem s a) at-up ∙ h .above k a in
+    let has-under : (i : ℕ) → mem under i ≡ reach r k i k = λ i. ap (λ (s : TxSet). mem s i) at-down ∙ h .below i k in
     record {
       ups = join-up .same ∙ h .ups;
       downs = join-down .same ∙ h .downs;
       above = λ i a. joined-at (omega (arith, h .ups)) join-up i a ∙ ap₂ _||_ (h .above i a) (ap₂ _&&_ (has-under i) (has-over a));
       below = λ i a.
           joined-at (omega (arith, h .downs)) join-down a i
-          ∙ ap₂ _||_ (h .below i a) (ap₂ _&&_ (has-over a) (has-under i) ∙ and-comm (reach ps k k a) (reach ps k i k));
+          ∙ ap₂ _||_ (h .below i a) (ap₂ _&&_ (has-over a) (has-under i) ∙ and-comm (reach r k k a) (reach r k i k));
     }
 
 pub close-turn : (k : ℕ) (over under : TxSet) {up₀ down₀ up down up' down' : List ℕ} → over ≡ setAt up k → under ≡ setAt down k
@@ -129,18 +125,10 @@ close-turn k over under at-up at-down join-up join-down c =
     record {
       ups = join-up .same ∙ c .ups;
       downs = join-down .same ∙ c .downs;
-      holds = λ ps h. rw add-one (by-way ps k over under at-up at-down join-up join-down (c .holds ps h));
+      holds = λ r h. rw add-one (by-way r k over under at-up at-down join-up join-down (c .holds r h));
     }
 
-pub close-done : (ps : List ℕ) {up₀ down₀ up down : List ℕ} {k : ℕ} → length ps ≡ k → Closing up₀ down₀ up down k
-    → Holds (isParent ps) up₀ down₀ → Holds (isAbove ps) up down
-unfolding isAbove
-close-done ps e c h = holds-as (c .holds ps h) (λ i a. ap (λ (n : ℕ). reach ps n i a) (sym e))
-
 -- ---- include_self: the relation, with the own position of the members below i
-
-abbrev pub withOwn : ℕ → (ℕ → ℕ → Bool) → ℕ → ℕ → Bool
-withOwn i f j a = f j a || (ltb j i && eqb j a)
 
 own-more : (i j a : ℕ) → (ltb j i && eqb j a || eqb j i && eqb a i) ≡ (ltb j (i + 1) && eqb j a)
 own-more i j a =
@@ -184,15 +172,10 @@ own-sets f i l own-up own-down h =
           own-down .has (omega (arith, h .downs)) a j ∙ ap₂ _||_ (h .below j a) (and-comm (eqb a i) (eqb j i)) ∙ more j a;
     }
 
--- the sets, and whether one of the members below i is above itself
-pub record Owning (ps up down : List ℕ) (cyclic : Bool) (i : ℕ) : Type 0 where
-  pub sets : Holds (withOwn i (isAbove ps)) up down
-  pub cycle : cyclic ≡ anyFrom (λ j. isAbove ps j j) i 0
-
 pub record Including (up₀ down₀ up down : List ℕ) (cyclic : Bool) (i : ℕ) : Type 0 where
   pub ups : length up ≡ length up₀
   pub downs : length down ≡ length down₀
-  pub owning : (ps : List ℕ) → Holds (isAbove ps) up₀ down₀ → Owning ps up down cyclic i
+  pub owning : (f : ℕ → ℕ → Bool) → Holds f up₀ down₀ → Owning f i up down cyclic
 
 pub own-start : (up down : List ℕ) → Including up down up down false 0
 unfolding anyFrom
@@ -200,10 +183,9 @@ own-start up down =
     record {
       ups = refl;
       downs = refl;
-      owning = λ ps h.
+      owning = λ f h.
           record {
-            sets = holds-as h (λ j a. sym (or-false (isAbove ps j a))
-                ∙ ap (λ (b : Bool). isAbove ps j a || (b && eqb j a)) (sym (le-ltb j 0 (omega arith))));
+            sets = holds-as h (λ j a. sym (or-false (f j a)) ∙ ap (λ (b : Bool). f j a || (b && eqb j a)) (sym (le-ltb j 0 (omega arith))));
             cycle = refl;
           };
     }
@@ -215,30 +197,32 @@ own-turn i {s} l at cycle own-up own-down g =
     record {
       ups = own-up .same ∙ g .ups;
       downs = own-down .same ∙ g .downs;
-      owning = λ ps h.
-          let o = g .owning ps h in
-          let itself : mem s i ≡ isAbove ps i i =
-          ap (λ (r : TxSet). mem r i) at ∙ o .sets .above i i
-          ∙ ap (λ (b : Bool). isAbove ps i i || (b && eqb i i)) (le-ltb i i (omega arith))
-          ∙ or-false (isAbove ps i i) in
+      owning = λ f h.
+          let o = g .owning f h in
+          let itself : mem s i ≡ f i i =
+          ap (λ (r : TxSet). mem r i) at ∙ o .sets .above i i ∙ ap (λ (b : Bool). f i i || (b && eqb i i)) (le-ltb i i (omega arith))
+          ∙ or-false (f i i) in
           record {
-            sets = own-sets (isAbove ps) i l own-up own-down (o .sets);
-            cycle = cycle ∙ ap₂ _||_ (o .cycle) itself ∙ sym (any-more (λ j. isAbove ps j j) i);
+            sets = own-sets f i l own-up own-down (o .sets);
+            cycle = cycle ∙ ap₂ _||_ (o .cycle) itself ∙ sym (any-more (λ j. f j j) i);
           };
     }
 
--- at the end that is the ancestors
+-- at the end that is the graph
+
 ancestor-is : (l e r : Bool) → (r ≡ true → l ≡ true) → (r || (l && e)) ≡ (l && (e || r))
 ancestor-is true e r h = or-comm r e
 ancestor-is false e true h = sym (h refl)
 ancestor-is false e false h = refl
 
-pub own-done : (ps : List ℕ) {up₀ down₀ up down : List ℕ} {cyclic : Bool} {i : ℕ} → length ps ≡ i
-    → Including up₀ down₀ up down cyclic i → Holds (isAbove ps) up₀ down₀ → Holds (isAncestor ps) up down × (cyclic ≡ isCyclic ps)
+pub closed-by : (ws : List ℕ) (n : ℕ) (g : DepGraph) → Taken ws n
+    → Owning (reach (isParent (take n ws)) n) n (g .ancestors) (g .descendants) (g .cyclic) → Closed (take positions ws) g
 unfolding isAncestor isCyclic
-own-done ps e g h =
-    let o = rw (← e) at (g .owning ps h) in (
-      holds-as (o .sets) (λ j a.
-          ancestor-is (ltb j (length ps)) (eqb j a) (isAbove ps j a) (λ r. lt-ltb j (length ps) (above-both ps j a r .from))),
-      o .cycle,
-    )
+closed-by ws n g t o =
+    let ps = take n ws in
+    let o' : Owning (isAbove ps) (length ps) (g .ancestors) (g .descendants) (g .cyclic) = rw (length-take-le n ws (t .there)) o in
+    let h : Holds (isAncestor ps) (g .ancestors) (g .descendants) =
+    holds-as (o' .sets) (λ i a.
+    ancestor-is (ltb i (length ps)) (eqb i a) (isAbove ps i a)
+    (λ e. lt-ltb i (length ps) (way-from (among ps) (reach-is (isParent ps) (length ps) i a e)))) in
+    rw (← t .same) (record { ancestors = h .above; descendants = λ i d. h .below d i; cyclic = o' .cycle })

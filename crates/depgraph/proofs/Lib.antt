@@ -1,4 +1,3 @@
-pub mod Counts
-pub mod Reach
+pub mod Parents
 pub mod Closure
 pub mod Theorems

@@ -1,9 +1,11 @@
 -- What the steps of `DepGraph::new` hand to each other: no contract outside this crate cites this. Assumes nothing.
 use Prim.Native.Nat.{ℕ}
 use mathlib.Core.Path.{_≡_}
-use mathlib.Core.Bool.{Bool, false}
+use mathlib.Core.Bool.{Bool, false, _&&_, _||_}
 use mathlib.Core.List.{List}
 use lib.ListN.{length}
+use lib.Dec.{eqb, ltb}
+use Rattle.lists.specs.Below.{anyFrom}
 use Rattle.txset.specs.Sets.{positions, mem, setAt}
 
 -- the two lists of sets hold the relation f, once from each side: a is in the i-th set of `up`, and i in the a-th of `down`, exactly where f i a
@@ -16,3 +18,12 @@ pub record Holds (f : ℕ → ℕ → Bool) (up down : List ℕ) : Type 0 where
 -- no one is related
 abbrev pub nothing : ℕ → ℕ → Bool
 nothing i a = false
+
+-- a relation, and each number below i to itself
+abbrev pub withOwn : ℕ → (ℕ → ℕ → Bool) → ℕ → ℕ → Bool
+withOwn i f j a = f j a || (ltb j i && eqb j a)
+
+-- the sets hold f, and the own position of the members below i; whether one of these was related to itself
+pub record Owning (f : ℕ → ℕ → Bool) (i : ℕ) (up down : List ℕ) (cyclic : Bool) : Type 0 where
+  pub sets : Holds (withOwn i f) up down
+  pub cycle : cyclic ≡ anyFrom (λ j. f j j) i 0

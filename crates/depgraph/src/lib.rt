@@ -2,11 +2,12 @@
 ghost use mathlib.Core.Path.{_≡_};
 ghost use Prim.Native.Nat.{ℕ, _≤_};
 ghost use lib.ListN.{length, take};
-ghost use mathlib.Core.List.{List};
+ghost use mathlib.Core.Bool.{Bool};
+ghost use Rattle.ways.specs.Ways.{reach};
 ghost use Rattle.txset.specs.Sets.{positions};
-ghost use Rattle.depgraph.specs.Graph.{isParent, isAbove, isAncestor, isCyclic};
+ghost use Rattle.depgraph.specs.Graph.{isParent};
 ghost use Rattle.depgraph.specs.Closed.{Closed};
-ghost use Rattle.depgraph.specs.Steps.{Holds, nothing};
+ghost use Rattle.depgraph.specs.Steps.{Holds, nothing, Owning};
 use txset::TxSet;
 
 // A set of ancestors and one of descendants for each position, each with the position itself; empty past the members.
@@ -58,9 +59,8 @@ fn link(parents: &[u64], n: usize, ancestors: &mut [u64], descendants: &mut [u64
 
 // Closes the links by way of one member after the other: who is below it gains all that is above it.
 fn close(n: usize, ancestors: &mut [u64], descendants: &mut [u64])
-    ensures { λ _. ⌜ ((ps : List ℕ) → length ps ≡ n
-        → Holds (isParent ps) (now (ancestors .entry)) (now (descendants .entry))
-        → Holds (isAbove ps) (now (ancestors .exit)) (now (descendants .exit))) ⌝ }
+    ensures { λ _. ⌜ ((f : ℕ → ℕ → Bool) → Holds f (now (ancestors .entry)) (now (descendants .entry))
+        → Holds (reach f n) (now (ancestors .exit)) (now (descendants .exit))) ⌝ }
 {
     let mut k: usize = 0;
     while k < n {
@@ -75,9 +75,8 @@ fn close(n: usize, ancestors: &mut [u64], descendants: &mut [u64])
 // Adds each member to its own sets, and answers whether one was above itself.
 fn include_self(n: usize, ancestors: &mut [u64], descendants: &mut [u64]) -> bool
     requires { ⌜ n ≤ positions ⌝ }
-    ensures { λ r. ⌜ ((ps : List ℕ) → length ps ≡ n
-        → Holds (isAbove ps) (now (ancestors .entry)) (now (descendants .entry))
-        → Holds (isAncestor ps) (now (ancestors .exit)) (now (descendants .exit)) × (r ≡ isCyclic ps)) ⌝ }
+    ensures { λ r. ⌜ ((f : ℕ → ℕ → Bool) → Holds f (now (ancestors .entry)) (now (descendants .entry))
+        → Owning f n (now (ancestors .exit)) (now (descendants .exit)) r) ⌝ }
 {
     let mut cyclic = false;
     let mut i: usize = 0;

@@ -13,7 +13,8 @@ use Rattle.lists.proofs.Lists.{each, same-is}
 use Rattle.feeset.specs.Scan.{scan, best, ranksAbove}
 use Rattle.feeset.specs.Total.{totalFrom}
 use Rattle.refusals.specs.Refusals.{answerOf, inRange, firstOutside, anyOutside}
-use Rattle.depgraph.specs.Graph.{isParent, reach, isAbove, isAncestor, isCyclic}
+use Rattle.ways.specs.Ways.{reach, isCyclic}
+use Rattle.depgraph.specs.Graph.{isParent, isAncestor}
 use Rattle.chunking.specs.Chunks.{swallow, chunksAfter, lengthsOf, chunkLengths, rates}
 use Rattle.passes.specs.Pass.{dependsOn, settle, groupsAfter, flat, onePass, backPass, forwardPass}
 use Rattle.post_linearize.specs.PostLinearize.{postLinearize}
@@ -23,7 +24,7 @@ use Rattle.linearize.specs.Linearize.{refusals, linearOrder}
 use Rattle.linearize.specs.Cases.{Case, Says, clusterChunks, orders, refuses, cuts, right, cases}
 
 all-right : allOf right cases ≡ true
-unfolding allOf cases right same answerOf refusals anyOutside firstOutside inRange isCyclic isAncestor isAbove reach isParent mem hasIn has setAt anyFrom allFrom countFrom listFrom anyOf elem highestOf linearOrder ancestorOrder rounds appendFor appendAncestors fewerAncestors remainingAncestors candidate remaining ancestorSum givenBack scan best ranksAbove totalFrom rateAt sum difference negated higher rateOrder sizeOrder rankOrder postLinearize backPass forwardPass onePass flat groupsAfter settle dependsOn outputOrder chunksOut nextChunk putOut inside memberReady chunkReady chunkAbove chunkRate chunksOf cut chunkLengths lengthsOf chunksAfter swallow rates
+unfolding allOf cases right same answerOf refusals anyOutside firstOutside inRange isCyclic isAncestor reach isParent mem hasIn has setAt anyFrom allFrom countFrom listFrom anyOf elem highestOf linearOrder ancestorOrder rounds appendFor appendAncestors fewerAncestors remainingAncestors candidate remaining ancestorSum givenBack scan best ranksAbove totalFrom rateAt sum difference negated higher rateOrder sizeOrder rankOrder postLinearize backPass forwardPass onePass flat groupsAfter settle dependsOn outputOrder chunksOut nextChunk putOut inside memberReady chunkReady chunkAbove chunkRate chunksOf cut chunkLengths lengthsOf chunksAfter swallow rates
 all-right = refl
 
 -- the two parts of a test that holds

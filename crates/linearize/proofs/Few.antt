@@ -11,8 +11,9 @@ use borrow.Author.Tests.{eq-eqb, not-true}
 use Rattle.lists.specs.Lists.{anyOf, elem, overwrite}
 use Rattle.txset.specs.Sets.{mem, setAt}
 use Rattle.lists.proofs.Bools.{clash, and-both}
-use Rattle.depgraph.specs.Graph.{isParent, Above, parent, further, isCyclic}
-use Rattle.depgraph.proofs.Reach.{parent-both}
+use Rattle.ways.specs.Ways.{step, further}
+use Rattle.depgraph.specs.Graph.{isParent, Above, isCyclic}
+use Rattle.depgraph.proofs.Parents.{among}
 use Rattle.depgraph.proofs.Theorems.{cyclic-is}
 use Rattle.linearize.specs.Linearize.{linearOrder}
 use Rattle.linearize.proofs.Theorems.{linear-below, linear-length}
@@ -25,8 +26,8 @@ not-own ps i p h e =
     clash (eq-eqb p i e) (not-true _ (and-both (ltb p (length ps)) (not (eqb p i)) (parts .0) .1))
 
 few-above : (ps : List ℕ) (i a : ℕ) → length ps ≤ 1 → Above ps i a → ⊥
-few-above ps i a h (parent e) = let b = parent-both ps i a e in not-own ps i a e (omega (arith, b .from, b .to))
-few-above ps i a h (further {p = p} e u) = let b = parent-both ps i p e in not-own ps i p e (omega (arith, b .from, b .to))
+few-above ps i a h (step e) = not-own ps i a e (omega (arith, among ps .from i a e, among ps .to i a e))
+few-above ps i a h (further {p = p} e u) = not-own ps i p e (omega (arith, among ps .from i p e, among ps .to i p e))
 
 pub few-acyclic : (ps : List ℕ) → length ps ≤ 1 → isCyclic ps ≡ false
 few-acyclic ps h = go (isCyclic ps) refl

@@ -1,7 +1,8 @@
+use mathlib.Core.Path.{_≡_}
 use Prim.Native.Nat.{_≤_, _-_}
 use native.Mathlib.Omega.{arith}
 use borrow.Author.Needs.{needs}
-use Rattle.depgraph.proofs.Closure.{Closing, close-start, close-turn, close-done}
+use Rattle.depgraph.proofs.Closure.{Closing, close-start, close-turn}
 use Rattle.depgraph.proofs.close.Statement.{statement}
 use Rattle.depgraph.proofs.close.Tie as tie
 
@@ -34,7 +35,7 @@ loop-again c =
     )
 
 returns : tie.Need-returns Inv-loop μ-loop
-returns c = λ ps e h. close-done ps (omega arith) (c .before .loop .inv .1) h
+returns c = let e : c .before .loop .k ≡ c .before .before .before .before .args .n = omega arith in rw e at (c .before .loop .inv .1 .holds)
 
 pub close-spec : {M : Type 1} → statement M
 close-spec =

@@ -1,11 +1,11 @@
-use mathlib.Core.Path.{sym}
+use mathlib.Core.Path.{_≡_, sym}
 use mathlib.Core.Bool.{or-true, or-false}
 use mathlib.Core.Logic.{⊎-elim}
 use Prim.Native.Nat.{_≤_, _<_, _-_}
 use native.Mathlib.Omega.{arith}
 use borrow.Author.Needs.{needs}
 use Rattle.txset.specs.Sets.{positions}
-use Rattle.depgraph.proofs.Closure.{Including, own-start, own-put, own-turn, own-done}
+use Rattle.depgraph.proofs.Closure.{Including, own-start, own-put, own-turn}
 use Rattle.depgraph.proofs.include_self.Statement.{statement}
 use Rattle.depgraph.proofs.include_self.Tie as tie
 
@@ -45,7 +45,7 @@ loop-again c =
     )
 
 returns : tie.Need-returns Inv-loop μ-loop
-returns c = λ ps e h. own-done ps (omega arith) (c .before .loop .inv .1) h
+returns c = let e : c .before .loop .i ≡ c .before .before .before .before .args .n = omega arith in rw e at (c .before .loop .inv .1 .owning)
 
 pub include-self-spec : {M : Type 1} → statement M
 include-self-spec =

@@ -1,7 +1,8 @@
 use mathlib.Core.Logic.{⊎-elim}
 use lib.ListN.{take}
-use lib.Seq.{length-take-le}
 use borrow.Author.Needs.{needs}
+use Rattle.ways.specs.Ways.{reach}
+use Rattle.depgraph.specs.Graph.{isParent}
 use Rattle.depgraph.proofs.Closure.{Taken, taken-some, taken-all, zeros-hold, closed-by}
 use Rattle.depgraph.proofs.DepGraph.new.Statement.{statement}
 use Rattle.depgraph.proofs.DepGraph.new.Tie as tie
@@ -25,9 +26,8 @@ returns c =
     let start = link .before .before .before in
     let parents = start .before .before .args .parents .now in
     let n = start .if1 .n in
-    let ps = take n parents in
-    let e = length-take-le n parents (taken start .there) in
-    closed-by parents n _ (taken start) (own .include-self .ensures ps e (close .close .ensures ps e (link .link .ensures)))
+    let f = isParent (take n parents) in
+    closed-by parents n _ (taken start) (own .include-self .ensures (reach f n) (close .close .ensures f (link .link .ensures)))
 
 pub new-spec : {M : Type 1} → statement M
 new-spec =
