@@ -10,12 +10,10 @@ use mathlib.Core.List.{List, [], _∷_, _++_, append-assoc}
 use lib.ListN.{length, drop, getD, set, length-set, length-append, length-drop, drop-of-length-le}
 use lib.Seq.{drop-cons, getD-set-same, getD-set-other, set-at}
 use lib.IntN.{ℤ}
-use borrow.Author.Tests.{eq-eqb, ne-eqb, lt-leb, le-leb}
 use Rattle.feefrac.specs.declared.FeeFrac.{FeeFrac}
 use Rattle.feefrac.specs.Rate.{zeroRate, rateAt, sum, higher}
-use Rattle.txset.specs.Sets.{positions}
 use Rattle.chunking.specs.declared.Chunk.{Chunk}
-use Rattle.chunking.specs.Chunks.{alone, swallow, chunksAfter, lengthsOf, chunkLengths, rates, fits, written, filled}
+use Rattle.chunking.specs.Chunks.{alone, swallow, chunksAfter, lengthsOf, chunkLengths, rates}
 
 -- ---- the feerates of two lists
 
@@ -160,31 +158,3 @@ module _ {rs : List FeeFrac} {st : List Chunk} {n i : ℕ} (o : Outer rs st n i)
 
   pub count-done : n ≡ length (chunkLengths rs)
   count-done = sym (length-lengths st n) ∙ ap length lengths-done
-
--- ---- the function between crates
-
-module _ (fs : List ℤ) (ss room : List ℕ) where
-  pub unlike : (length fs ≡ length ss → ⊥) → fits fs ss room ≡ false
-  unfolding fits
-  unlike h = rw (ne-eqb (length fs) (length ss) h)
-
-  pub many : length fs ≡ length ss → positions < length fs → fits fs ss room ≡ false
-  unfolding fits
-  many e h = rw (eq-eqb (length fs) (length ss) e, lt-leb (length fs) positions h)
-
-  pub cramped : length fs ≡ length ss → length fs ≤ positions → length room < length fs → fits fs ss room ≡ false
-  unfolding fits
-  cramped e h k = rw (eq-eqb (length fs) (length ss) e, le-leb (length fs) positions h, lt-leb (length fs) (length room) k)
-
-  pub fitting : length fs ≡ length ss → length fs ≤ positions → length fs ≤ length room → fits fs ss room ≡ true
-  unfolding fits
-  fitting e h k = rw (eq-eqb (length fs) (length ss) e, le-leb (length fs) positions h, le-leb (length fs) (length room) k)
-
-  pub cut-nothing : fits fs ss room ≡ false → (0 ≡ written fs ss room) × (room ≡ filled fs ss room)
-  unfolding written filled
-  cut-nothing e = (rw e, rw e)
-
-  pub cut-all : fits fs ss room ≡ true → (r : ℕ) (new : List ℕ) → r ≡ length (chunkLengths (rates fs ss))
-      → new ≡ chunkLengths (rates fs ss) ++ drop r room → (r ≡ written fs ss room) × (new ≡ filled fs ss room)
-  unfolding written filled
-  cut-all e r new p q = (rw e p, rw (e, ← p) q)

@@ -1,15 +1,13 @@
 -- Document 01, module 4 (chunk_lengths), on the feerates of a list in its order. A list of chunks has the last chunk first.
 -- Assumes nothing.
 use Prim.Native.Nat.{ℕ, _+_}
-use mathlib.Core.Bool.{Bool, cond, _&&_}
+use mathlib.Core.Bool.{cond}
 use mathlib.Core.List.{List, [], _∷_, _++_}
-use lib.ListN.{length, drop}
-use lib.Dec.{eqb, leb}
+use lib.ListN.{length}
 use lib.IntN.{ℤ}
 use Rattle.lists.specs.Lists.{overwrite}
 use Rattle.feefrac.specs.declared.FeeFrac.{FeeFrac}
 use Rattle.feefrac.specs.Rate.{sum, higher}
-use Rattle.txset.specs.Sets.{positions}
 use Rattle.refusals.specs.declared.Reply.{Reply}
 use Rattle.refusals.specs.Refusals.{Line, line, refusal, success, replyOf, keptUnless, differ, tooMany, short, anyOutside}
 use Rattle.chunking.specs.declared.Chunk.{Chunk}
@@ -59,15 +57,3 @@ reply fs ss room = replyOf refusal (refusals fs ss room) (success (length (chunk
 unfoldable pub roomAfter : List ℤ → List ℕ → List ℕ → List ℕ
 roomAfter fs ss room =
     keptUnless (refusals fs ss room) room (overwrite (chunkLengths (rates fs ss)) room)
-
--- ---- what the function between crates promises for any input
-
--- as many sizes as fees, at most 64, and a place for each
-unfoldable pub fits : List ℤ → List ℕ → List ℕ → Bool
-fits fs ss room = eqb (length fs) (length ss) && (leb (length fs) positions && leb (length fs) (length room))
-
-unfoldable pub written : List ℤ → List ℕ → List ℕ → ℕ
-written fs ss room = cond (fits fs ss room) (length (chunkLengths (rates fs ss))) 0
-
-unfoldable pub filled : List ℤ → List ℕ → List ℕ → List ℕ
-filled fs ss room = cond (fits fs ss room) (overwrite (chunkLengths (rates fs ss)) room) room

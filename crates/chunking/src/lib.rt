@@ -4,7 +4,9 @@ ghost use mathlib.Core.List.{_++_};
 ghost use Prim.Native.Nat.{_≤_};
 ghost use lib.ListN.{length, drop};
 ghost use Rattle.txset.specs.Sets.{positions};
-ghost use Rattle.chunking.specs.Chunks.{written, filled, rates, chunkLengths, reply, roomAfter};
+ghost use Rattle.chunking.specs.Chunks.{rates, chunkLengths, reply, roomAfter};
+ghost use Rattle.chunking.specs.Orders.{lengthsWritten, lengthsFilled};
+ghost use Rattle.chunking.specs.Setup.{Gathered};
 use feefrac::FeeFrac;
 use refusals::Reply;
 use txset::POSITIONS;
@@ -35,23 +37,35 @@ pub fn chunk_lengths(fees: &[i64], sizes: &[u64], room: &mut [usize]) -> Reply
     Reply::wrote(write_chunks(fees, sizes, room))
 }
 
-// The same without the call's replies, for a list that an order gives: where there is another number of sizes, more than 64 members
-// or a shorter room, it writes nothing and answers 0.
-pub fn cut_lengths(fees: &[i64], sizes: &[u64], room: &mut [usize]) -> usize
-    ensures { λ r. ⌜ r ≡ written (now (fees .entry)) (now (sizes .entry)) (now (room .entry)) ⌝ }
-    ensures { λ _. ⌜ now (room .exit) ≡ filled (now (fees .entry)) (now (sizes .entry)) (now (room .entry)) ⌝ }
+// Writes the lengths of the chunks of an order to the start of `lens`; answers how many there are. Where the order is longer than 64 or
+// than `lens`, it writes nothing and answers 0.
+pub fn order_lengths(fees: &[i64], sizes: &[u64], order: &[usize], lens: &mut [usize]) -> usize
+    ensures { λ r. ⌜ r ≡ lengthsWritten (now (fees .entry)) (now (sizes .entry)) (now (order .entry)) (now (lens .entry)) ⌝ }
+    ensures { λ _. ⌜ now (lens .exit) ≡ lengthsFilled (now (fees .entry)) (now (sizes .entry)) (now (order .entry)) (now (lens .entry)) ⌝ }
 {
-    let n = fees.len();
-    if sizes.len() != n {
-        return 0;
-    }
+    let n = order.len();
     if POSITIONS < n {
         return 0;
     }
-    if room.len() < n {
+    if lens.len() < n {
         return 0;
     }
-    write_chunks(fees, sizes, room)
+    let mut in_fees = [0i64; 64];
+    let mut in_sizes = [0u64; 64];
+    gather(fees, sizes, order, &mut in_fees, &mut in_sizes);
+    write_chunks(&in_fees[..n], &in_sizes[..n], lens)
+}
+
+// The fees and sizes of the members in the order.
+fn gather(fees: &[i64], sizes: &[u64], order: &[usize], in_fees: &mut [i64], in_sizes: &mut [u64])
+    ensures { λ _. ⌜ Gathered (now (fees .entry)) (now (sizes .entry)) (now (order .entry)) (now («in_fees» .exit)) (now («in_sizes» .exit)) ⌝ }
+{
+    let mut k: usize = 0;
+    while k < order.len() {
+        let member = order[k];
+        FeeFrac::at(fees, sizes, member).put(in_fees, in_sizes, k);
+        k += 1;
+    }
 }
 
 // The chunks stand in an array as a stack; each member swallows from its top and is then pushed.

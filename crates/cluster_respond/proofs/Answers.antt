@@ -22,7 +22,7 @@ use Rattle.cluster_reader.proofs.Lengths.{read-whole}
 use Rattle.cluster_writer.specs.Writing.{refusalText, successText}
 use Rattle.cluster_writer.specs.Calls.{few, successPrinted, successRoom}
 use Rattle.lists.specs.Lists.{overwrite}
-use Rattle.output_order.specs.Output.{orderLengths}
+use Rattle.chunking.specs.Orders.{orderLengths}
 use Rattle.cluster_respond.specs.Program.{clusterText, textOf, response}
 
 -- a room starts with a list of n

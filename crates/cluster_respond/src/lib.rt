@@ -35,6 +35,6 @@ fn respond_cluster(fees: &[i64], sizes: &[u64], parents: &[u64], out: &mut [u8; 
     }
     let n = reply.written;
     let mut lens = [0usize; 64];
-    let count = output_order::order_lengths(fees, sizes, &order[..n], &mut lens);
+    let count = chunking::order_lengths(fees, sizes, &order[..n], &mut lens);
     cluster_writer::write_success(fees, sizes, &order[..n], &lens[..count], out)
 }

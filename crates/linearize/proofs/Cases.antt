@@ -1,6 +1,6 @@
 -- Every line of the table of specs/Cases.antt holds. Assumes nothing.
 use mathlib.Core.Path.{_≡_, refl}
-use mathlib.Core.Bool.{Bool, true, _&&_, and-eq-true-iff}
+use mathlib.Core.Bool.{Bool, true, _&&_}
 use mathlib.Core.List.{List·Memᴰ}
 use lib.Dec.{eqb}
 use borrow.Author.Tests.{eqb-true}
@@ -19,7 +19,8 @@ use Rattle.chunking.specs.Chunks.{swallow, chunksAfter, lengthsOf, chunkLengths
 use Rattle.passes.specs.Pass.{dependsOn, settle, groupsAfter, flat, onePass, backPass, forwardPass}
 use Rattle.post_linearize.specs.PostLinearize.{postLinearize}
 use Rattle.candidates.specs.Candidates.{givenBack, ancestorSum, remaining, candidate, remainingAncestors, fewerAncestors, appendAncestors, appendFor, rounds, ancestorOrder}
-use Rattle.output_order.specs.Output.{cut, chunksOf, chunkRate, chunkAbove, chunkReady, memberReady, inside, putOut, nextChunk, chunksOut, outputOrder}
+use Rattle.chunking.specs.Orders.{cut, chunksOf}
+use Rattle.output_order.specs.Output.{chunkRate, chunkAbove, chunkReady, memberReady, inside, putOut, nextChunk, chunksOut, outputOrder}
 use Rattle.linearize.specs.Linearize.{refusals, linearOrder}
 use Rattle.linearize.specs.Cases.{Case, Says, clusterChunks, orders, refuses, cuts, right, cases}
 

@@ -20,7 +20,8 @@ use Rattle.lists.proofs.Lists.{After}
 use Rattle.feeset.specs.Scan.{scan, best, ranksAbove}
 use Rattle.feeset.proofs.Scan.{best-elem}
 use Rattle.candidates.proofs.Kept.{elem-below}
-use Rattle.output_order.specs.Output.{chunkAt, memberReady, inside, putOut, nextChunk, chunksOut}
+use Rattle.chunking.specs.Orders.{chunkAt}
+use Rattle.output_order.specs.Output.{memberReady, inside, putOut, nextChunk, chunksOut}
 
 -- ---- the best of some positions
 

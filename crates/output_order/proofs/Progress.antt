@@ -22,7 +22,8 @@ use Rattle.lists.proofs.Numbers.{lt-or-ge}
 use Rattle.feeset.specs.Scan.{ranksAbove}
 use Rattle.feefrac.proofs.Exact.{sumOf}
 use Rattle.candidates.proofs.Kept.{elem-below, left, left-less, once-none}
-use Rattle.output_order.specs.Output.{cut, chunkAt, chunkAbove, chunkReady, memberReady, inside, putOut, nextChunk, chunksOut}
+use Rattle.chunking.specs.Orders.{cut, chunkAt}
+use Rattle.output_order.specs.Output.{chunkAbove, chunkReady, memberReady, inside, putOut, nextChunk, chunksOut}
 use Rattle.output_order.proofs.Kept.{Best, none-or-best, mayCome, may-ready, keeps-inside}
 
 -- ---- which of two lists has it

@@ -21,7 +21,8 @@ use Rattle.txset.proofs.Sets.{size-members, mem-empty}
 use Rattle.txset.proofs.Walk.{walk-done}
 use Rattle.feeset.specs.Scan.{best}
 use Rattle.feeset.proofs.Scan.{best-ext}
-use Rattle.output_order.specs.Output.{chunksOf, chunkAt, chunkAbove, chunkReady, inside, putOut, nextChunk, chunksOut, outputOrder, fits, written, filled}
+use Rattle.chunking.specs.Orders.{chunksOf, chunkAt}
+use Rattle.output_order.specs.Output.{chunkAbove, chunkReady, inside, putOut, nextChunk, chunksOut, outputOrder, fits, written, filled}
 use Rattle.output_order.specs.Steps.{All, Cut, Surveyed}
 use Rattle.output_order.specs.Rounds.{sumAbove, covered, chunkOf, Standing, Placed, Put}
 use Rattle.output_order.proofs.Choices.{only-list, best-mem}

@@ -19,7 +19,8 @@ use Rattle.lists.proofs.Ranges.{list-below}
 use Rattle.txset.proofs.Sets.{length-put}
 use Rattle.txset.proofs.Walk.{walk-step, walk-done}
 use Rattle.feeset.specs.Total.{total}
-use Rattle.output_order.specs.Output.{chunkAt, chunkRate}
+use Rattle.chunking.specs.Orders.{chunkAt}
+use Rattle.output_order.specs.Output.{chunkRate}
 use Rattle.output_order.specs.Steps.{All, Cut, Surveyed, needed}
 use Rattle.output_order.proofs.Cutting.{sets-more, rates-more}
 

@@ -16,8 +16,9 @@ use Rattle.chunking.specs.Chunks.{chunkLengths}
 use Rattle.chunking.proofs.Theorems.{lengths-sum}
 use Rattle.lists.proofs.Lists.{After}
 use Rattle.candidates.proofs.Kept.{Once, once-none, once-more, after-none}
-use Rattle.output_order.specs.Output.{chunksOf, chunkAt, chunkReady, memberReady, nextChunk, outputOrder}
-use Rattle.output_order.proofs.Cutting.{length-cut}
+use Rattle.chunking.specs.Orders.{chunksOf, chunkAt}
+use Rattle.output_order.specs.Output.{chunkReady, memberReady, nextChunk, outputOrder}
+use Rattle.chunking.proofs.Orders.{length-cut}
 use Rattle.output_order.proofs.Kept.{mayCome, Ready, keeps-out, after-ready}
 use Rattle.output_order.proofs.Progress.{Parts, cut-stands, cut-covers, count-none, first-member, first-chunk, next-member}
 use Rattle.output_order.proofs.Progress.{stage, stage-out, sound, found, all-out}

@@ -1,4 +1,3 @@
 pub mod Output
 pub mod Rounds
-pub mod Setup
 pub mod Steps

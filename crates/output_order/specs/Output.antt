@@ -2,8 +2,8 @@
 -- `n` is the number of members, `anc i a` says that a is an ancestor of i, `out` lists what is out. Assumes nothing.
 use Prim.Native.Nat.{ℕ, zero, suc}
 use mathlib.Core.Bool.{Bool, cond, not, _&&_, _||_}
-use mathlib.Core.List.{List, [], _∷_, _++_, map}
-use lib.ListN.{length, take, drop, getD}
+use mathlib.Core.List.{List, [], _∷_, _++_}
+use lib.ListN.{length}
 use lib.Dec.{eqb, leb}
 use lib.IntN.{ℤ}
 use Rattle.feefrac.specs.declared.FeeFrac.{FeeFrac}
@@ -12,20 +12,8 @@ use Rattle.lists.specs.Below.{allFrom, listFrom}
 use Rattle.lists.specs.Lists.{elem, highestOf, overwrite}
 use Rattle.txset.specs.Sets.{positions}
 use Rattle.feeset.specs.Total.{total}
-use Rattle.chunking.specs.Chunks.{chunkLengths}
+use Rattle.chunking.specs.Orders.{chunksOf, chunkAt}
 use Rattle.feeset.specs.Scan.{best, ranksAbove}
-
--- a list cut into parts of these lengths
-unfoldable pub cut : List ℕ → List ℕ → List (List ℕ)
-cut [] xs = []
-cut (l ∷ ls) xs = take l xs ∷ cut ls (drop l xs)
-
--- "Cut into chunks."
-unfoldable pub chunksOf : List ℤ → List ℕ → List ℕ → List (List ℕ)
-chunksOf fs ss order = cut (chunkLengths (map (rateAt fs ss) order)) order
-
-abbrev pub chunkAt : List (List ℕ) → ℕ → List ℕ
-chunkAt cs k = getD cs k []
 
 -- a chunk's feerate sum
 unfoldable pub chunkRate : List ℤ → List ℕ → ℕ → List ℕ → FeeFrac
@@ -71,22 +59,7 @@ chunksOut fs ss n anc cs (suc r) gone out = chunksOut fs ss n anc cs r (ks ++ go
 unfoldable pub outputOrder : List ℤ → List ℕ → (ℕ → ℕ → Bool) → List ℕ → List ℕ
 outputOrder fs ss anc order = chunksOut fs ss (length fs) anc (chunksOf fs ss order) (length (chunksOf fs ss order)) [] []
 
--- ---- what the functions between crates promise for any input
-
--- the lengths of the chunks of an order
-abbrev pub orderLengths : List ℤ → List ℕ → List ℕ → List ℕ
-orderLengths fs ss order = chunkLengths (map (rateAt fs ss) order)
-
--- whether there are at most 64 members in the order, and a place for each
-unfoldable pub cuts : List ℕ → List ℕ → Bool
-cuts order room = leb (length order) positions && leb (length order) (length room)
-
-unfoldable pub lengthsWritten : List ℤ → List ℕ → List ℕ → List ℕ → ℕ
-lengthsWritten fs ss order room = cond (cuts order room) (length (orderLengths fs ss order)) 0
-
-unfoldable pub lengthsFilled : List ℤ → List ℕ → List ℕ → List ℕ → List ℕ
-lengthsFilled fs ss order room =
-    cond (cuts order room) (overwrite (orderLengths fs ss order) room) room
+-- ---- what the function between crates promises for any input
 
 -- whether there are at most 64 members, an order of at most as many, and a place for each
 unfoldable pub fits : List ℤ → List ℕ → List ℕ → Bool

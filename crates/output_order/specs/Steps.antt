@@ -11,7 +11,8 @@ use Rattle.txset.specs.declared.TxSet.{TxSet}
 use Rattle.lists.specs.Below.{anyFrom}
 use Rattle.lists.specs.Lists.{elem, highestOf}
 use Rattle.txset.specs.Sets.{positions, mem, setAt}
-use Rattle.output_order.specs.Output.{chunkAt, chunkRate}
+use Rattle.chunking.specs.Orders.{chunkAt}
+use Rattle.output_order.specs.Output.{chunkRate}
 
 -- `all` is the set of the n members, at most 64
 pub record All (n : ℕ) (all : TxSet) : Type 0 where

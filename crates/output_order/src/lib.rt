@@ -6,11 +6,11 @@ ghost use Prim.Native.Nat.{ℕ, _≤_, _<_};
 ghost use lib.ListN.{length};
 ghost use Rattle.lists.specs.Lists.{anyOf, elem, highestOf};
 ghost use Rattle.txset.specs.Sets.{positions, isPosition, mem, members, setAt};
-ghost use Rattle.output_order.specs.Output.{chunksOf, written, filled, lengthsWritten, lengthsFilled};
-ghost use Rattle.output_order.specs.Setup.{Gathered};
+ghost use Rattle.chunking.specs.Orders.{chunksOf};
+ghost use Rattle.output_order.specs.Output.{written, filled};
 ghost use Rattle.output_order.specs.Steps.{All, Cut, Surveyed};
 ghost use Rattle.output_order.specs.Rounds.{chosen, heldOf, sumAbove, chunkOf, memberOf, Standing, Put};
-use chunking::cut_lengths;
+use chunking::order_lengths;
 use feefrac::FeeFrac;
 use feefrac::compare_sizes;
 use feefrac::is_greater;
@@ -123,34 +123,6 @@ fn cut(
         k += 1;
     }
     count
-}
-
-// Writes the lengths of the chunks of an order to the start of `lens`; answers how many there are. Where the order is longer than 64 or
-// than `lens`, it writes nothing and answers 0.
-pub fn order_lengths(fees: &[i64], sizes: &[u64], order: &[usize], lens: &mut [usize]) -> usize
-    ensures { λ r. ⌜ r ≡ lengthsWritten (now (fees .entry)) (now (sizes .entry)) (now (order .entry)) (now (lens .entry)) ⌝ }
-    ensures { λ _. ⌜ now (lens .exit) ≡ lengthsFilled (now (fees .entry)) (now (sizes .entry)) (now (order .entry)) (now (lens .entry)) ⌝ }
-{
-    let n = order.len();
-    if POSITIONS < n {
-        return 0;
-    }
-    let mut in_fees = [0i64; 64];
-    let mut in_sizes = [0u64; 64];
-    gather(fees, sizes, order, &mut in_fees, &mut in_sizes);
-    cut_lengths(&in_fees[..n], &in_sizes[..n], lens)
-}
-
-// The fees and sizes of the members in the order.
-fn gather(fees: &[i64], sizes: &[u64], order: &[usize], in_fees: &mut [i64], in_sizes: &mut [u64])
-    ensures { λ _. ⌜ Gathered (now (fees .entry)) (now (sizes .entry)) (now (order .entry)) (now («in_fees» .exit)) (now («in_sizes» .exit)) ⌝ }
-{
-    let mut k: usize = 0;
-    while k < order.len() {
-        let member = order[k];
-        FeeFrac::at(fees, sizes, member).put(in_fees, in_sizes, k);
-        k += 1;
-    }
 }
 
 // The positions of a list as a set.

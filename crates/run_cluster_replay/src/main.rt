@@ -264,10 +264,7 @@ fn least(count: usize, most: usize) -> usize
 fn put_order(fees: &[i64], sizes: &[u64], order: &[usize]) {
     put_numbers(b"order=", order);
     let mut lens = [0usize; 64];
-    let n = least(
-        output_order::order_lengths(fees, sizes, order, &mut lens),
-        64,
-    );
+    let n = least(chunking::order_lengths(fees, sizes, order, &mut lens), 64);
     put_numbers(b"chunks=", &lens[..n]);
 }
 

@@ -5,8 +5,8 @@ use lib.ListN.{length, take}
 use borrow.Author.Needs.{needs}
 use Rattle.txset.specs.Sets.{positions}
 use Rattle.linearize.specs.Linearize.{linearOrder}
-use Rattle.output_order.specs.Output.{orderLengths}
-use Rattle.output_order.proofs.Cutting.{all-lengths}
+use Rattle.chunking.specs.Orders.{orderLengths}
+use Rattle.chunking.proofs.Orders.{all-lengths}
 use Rattle.cluster_respond.proofs.Answers.{Starts, starts, part-long, prints, refused-text, ordered, success-text}
 use Rattle.cluster_respond.proofs.respond_cluster.Statement.{statement}
 use Rattle.cluster_respond.proofs.respond_cluster.Tie as tie

@@ -4,8 +4,9 @@ use mathlib.Core.Path.{refl}
 use lib.ListN.{length, getD}
 use borrow.Author.Needs.{needs}
 use Rattle.txset.specs.Sets.{positions}
-use Rattle.output_order.specs.Output.{orderLengths}
-use Rattle.output_order.proofs.Cutting.{Lengths, lengths-are, Cutting, Bounds, cut-start, cut-bounds, cut-turn, cut-done}
+use Rattle.chunking.specs.Orders.{orderLengths}
+use Rattle.chunking.proofs.Orders.{Lengths, lengths-are}
+use Rattle.output_order.proofs.Cutting.{Cutting, Bounds, cut-start, cut-bounds, cut-turn, cut-done}
 use Rattle.output_order.proofs.cut.Statement.{statement}
 use Rattle.output_order.proofs.cut.Tie as tie
 

@@ -1,9 +1,9 @@
 use Prim.Native.Nat.{_-_}
 use lib.ListN.{length}
 use borrow.Author.Needs.{needs}
-use Rattle.output_order.proofs.Cutting.{Gathering, gather-start, gather-turn, gather-done}
-use Rattle.output_order.proofs.gather.Statement.{statement}
-use Rattle.output_order.proofs.gather.Tie as tie
+use Rattle.chunking.proofs.Orders.{Gathering, gather-start, gather-turn, gather-done}
+use Rattle.chunking.proofs.gather.Statement.{statement}
+use Rattle.chunking.proofs.gather.Tie as tie
 
 abbrev Inv-loop : tie.InvT-loop
 Inv-loop fees sizes order in-fees₀ in-sizes₀ k₀ in-fees in-sizes k = Gathering fees sizes order in-fees₀ in-sizes₀ in-fees in-sizes k
