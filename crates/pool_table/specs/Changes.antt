@@ -20,6 +20,14 @@ changed s f p = record { limits = p .limits; total = p .total; slots = set (p .s
 abbrev pub withEntry : Entry → Slot → Slot
 withEntry e x = record { entry = e; parents = x .parents; children = x .children }
 
+-- both sets of links put anew, the rest as it is
+abbrev pub withLinks : List ℕ → List ℕ → Slot → Slot
+withLinks ps cs x = record { entry = x .entry; parents = ps; children = cs }
+
+-- the sigop cost put anew
+abbrev pub withCost : ℕ → Entry → Entry
+withCost c e = record { txid = e .txid; fee = e .fee; weight = e .weight; cost = c }
+
 -- one link more on a side
 abbrev pub withLink : Side → ℕ → Slot → Slot
 withLink Parents b x = record { entry = x .entry; parents = plus (x .parents) b; children = x .children }

@@ -60,7 +60,7 @@ linksMutual p = allFrom (λ a. allFrom (λ b. isAnswered p a b) capacity 0) (slo
 unfoldable pub acyclic : Pool → Bool
 acyclic p = not (isCyclic (isParent p) (slotCount p))
 
--- so many members, and the virtual size of their raw weights together, are within both limits
+-- the count of a set of slots, and the virtual size of their raw weights together, pass neither limit
 unfoldable pub isWithin : Pool → (ℕ → Bool) → Bool
 isWithin p f = leb (countOf p f) (p .limits .count) && leb (virtualSize (weightOf p f)) (p .limits .size)
 
@@ -70,10 +70,12 @@ clustersWithin p = allFrom (λ s. not (occupied p s) || isWithin p (inCluster p 
 
 -- ---- all parts
 
+-- what a table of a legal length has to mean
+unfoldable pub sound : Pool → Bool
+sound p =
+    limitsInRange (p .limits)
+    && (numbersInRange p && (txidsDistinct p && (totalIsSum p && (freeZeroed p && (linksMutual p && (acyclic p && clustersWithin p))))))
+
+-- "slots" of a range too: a legal length, and a sound pool
 unfoldable pub wellFormed : List ℕ → Bool
-wellFormed t =
-    isLegal (length t)
-    && (limitsInRange (poolOf t .limits)
-    && (numbersInRange (poolOf t)
-    && (txidsDistinct (poolOf t)
-    && (totalIsSum (poolOf t) && (freeZeroed (poolOf t) && (linksMutual (poolOf t) && (acyclic (poolOf t) && clustersWithin (poolOf t))))))))
+wellFormed t = isLegal (length t) && sound (poolOf t)
