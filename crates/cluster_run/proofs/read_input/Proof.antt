@@ -1,4 +1,4 @@
-use Prim.Native.Nat.{_+_, _-_, _≤_}
+use Prim.Native.Nat.{_+_, _-_, _≤_, _<_}
 use native.Mathlib.Omega.{arith}
 use mathlib.Core.Path.{_≡_, refl, sym, _∙_}
 use mathlib.Core.List.{[]}
@@ -8,7 +8,7 @@ use lib.Seq.{length-take-le}
 use borrow.Author.Needs.{needs}
 use Rattle.cluster_reader.specs.Lines.{before}
 use Rattle.cluster_reader.specs.Calls.{isDecided}
-use Rattle.cluster_run.proofs.Bounds.{bytes-within}
+use Rattle.cluster_run.proofs.Stops.{gave-bytes, gave-end, gave-failure}
 use Rattle.cluster_run.proofs.read_input.Statement.{statement}
 use Rattle.cluster_run.proofs.read_input.Tie as tie
 
@@ -18,16 +18,17 @@ Inv-loop text₀ len₀ text len = (len ≤ length text) × ((length text ≡ le
 abbrev μ-loop : tie.MeasureT-loop
 μ-loop text₀ len₀ text len = length text - len
 
--- the bytes that a read gave lie within the room
-behind : (c : tie.Else1 Inv-loop μ-loop)
-    → c .before .before .before .before .before .before .before .before .before .loop .len + c .before .before .n .given .0 .0
-    ≤ length (c .before .before .before .before .before .before .read-more .last .0)
-behind c = let n = c .before .before in bytes-within _ _ (n .before .before .before .before .read-more .ensures) (n .n .given .1)
-
 -- where nothing is read yet, nothing is certain
 nothing-decided : isDecided [] ≡ false
 unfolding isDecided before
 nothing-decided = refl
+
+-- the bytes that a read gave: at least one, and within the room
+behind : (c : tie.After-known-told3 Inv-loop μ-loop)
+    → (0 < c .before .got3 .given .0 .0)
+    × (c .before .before .before .before .before .before .before .before .loop .len + c .before .got3 .given .0 .0
+    ≤ length (c .before .before .before .before .before .read-more .last .0))
+behind c = gave-bytes _ _ (c .before .before .before .before .before .read-more .ensures) (c .before .got3 .given .1)
 
 pub read-input-spec : {M : Type 1} → statement M
 read-input-spec =
@@ -39,17 +40,18 @@ read-input-spec =
     (λ c κs. search needs)
     (λ c. search needs)
     (λ c. search needs)
+    (λ c. let got = c .before in omega (arith, gave-end _ _ (got .before .before .before .before .read-more .ensures) (got .got .given .1)))
     (λ c. search needs)
     (λ c. search needs)
-    (λ c. search needs)
+    (λ c. let got = c .before in omega (arith, gave-failure _ _ (got .before .before .before .before .read-more .ensures) (got .got2 .given .1)))
     (λ c. search needs)
     (λ c. let h = behind c in search needs)
-    (λ c. behind c)
-    (λ c. sym (length-take-le _ _ (behind (c .before))))
+    (λ c. behind c .1)
+    (λ c. sym (length-take-le _ _ (behind (c .before) .1)))
     (λ c κs. search needs)
     (λ c. search needs)
+    (λ c. (behind (c .before .before .before) .1, sym (c .before .is-decided .ensures .1) ∙ c .if1 .taken))
     (λ c. let h = behind (c .before .before .before) in search needs)
+    (λ c. let h = behind (c .before .before .before) in (h .1, (search needs, sym (c .before .is-decided .ensures .1) ∙ c .if1 .left)))
     (λ c. search needs)
-    (λ c. let h = behind (c .before .before .before) in (h, (search needs, sym (c .before .is-decided .ensures .1) ∙ c .if2 .left)))
-    (λ c. search needs)
-    (λ c. search needs))
+    (λ c. omega arith))
