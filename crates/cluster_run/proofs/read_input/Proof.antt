@@ -30,6 +30,10 @@ behind : (c : tie.After-known-told3 Inv-loop μ-loop)
     ≤ length (c .before .before .before .before .before .read-more .last .0))
 behind c = gave-bytes _ _ (c .before .before .before .before .before .read-more .ensures) (c .before .got3 .given .1)
 
+-- the loop is left where the room is full
+full : tie.Need-returns-4 Inv-loop μ-loop
+full c = omega arith
+
 pub read-input-spec : {M : Type 1} → statement M
 read-input-spec =
     tie.close
@@ -54,4 +58,4 @@ read-input-spec =
     (λ c. let h = behind (c .before .before .before) in search needs)
     (λ c. let h = behind (c .before .before .before) in (h .1, (search needs, sym (c .before .is-decided .ensures .1) ∙ c .if1 .left)))
     (λ c. search needs)
-    (λ c. omega arith))
+    full)
