@@ -1,7 +1,7 @@
 -- Theorems for readers of specs/Graph.antt: the computed closure is the inductive one, ancestors are ordered where no one is above itself,
 -- an ancestor has fewer ancestors, and there is one graph for the same parents. Assumes nothing.
-use mathlib.Core.Path.{_≡_, refl, sym, ap, ap₂, _∙_}
-use mathlib.Core.Bool.{Bool, true, false, _&&_, _||_}
+use mathlib.Core.Path.{_≡_, sym, ap, ap₂, _∙_}
+use mathlib.Core.Bool.{Bool, true, false, _||_}
 use mathlib.Core.Logic.{⊎-elim}
 use mathlib.Core.List.{List}
 use Prim.Native.Nat.{ℕ, _<_}

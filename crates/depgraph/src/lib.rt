@@ -1,5 +1,4 @@
 // Module 3 of document 01: the closure of a cluster's parent links.
-ghost use mathlib.Core.Path.{_≡_};
 ghost use Prim.Native.Nat.{ℕ, _≤_};
 ghost use lib.ListN.{length, take};
 ghost use mathlib.Core.Bool.{Bool};

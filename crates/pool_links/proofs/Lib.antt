@@ -1,0 +1,3 @@
+pub mod Mutual
+pub mod Ready
+pub mod Sweep
