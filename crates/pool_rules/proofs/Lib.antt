@@ -1,0 +1,3 @@
+pub mod Finds
+pub mod Listed
+pub mod Pools

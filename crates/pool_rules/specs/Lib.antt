@@ -1,0 +1,2 @@
+pub mod Module8
+pub mod Calls
