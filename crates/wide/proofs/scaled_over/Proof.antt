@@ -8,7 +8,7 @@ use Rattle.wide.proofs.scaled_over.Statement.{statement}
 use Rattle.wide.proofs.scaled_over.Tie as tie
 
 abbrev Inv-loop : tie.InvT-loop
-Inv-loop x factor size whole part quotient₀ rest₀ bits₀ k₀ quotient rest bits k = Passed x factor size quotient rest bits k
+Inv-loop x factor size whole part quotient₀ rest₀ bits₀ k₀ quotient rest bits k = Passed 18446744073709551615 x factor size quotient rest bits k
 
 abbrev μ-loop : tie.MeasureT-loop
 μ-loop x factor size whole part quotient₀ rest₀ bits₀ k₀ quotient rest bits k = 16 - k
@@ -66,7 +66,7 @@ scaled-over-spec =
     returns
     (λ c. search needs)
     (λ c. search needs)
-    (λ c. none-passed _ _ _ (search needs))
+    (λ c. none-passed _ _ _ _ (search needs))
     plus-requires
     sum-below-requires
     plus-requires-2
