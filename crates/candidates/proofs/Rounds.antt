@@ -8,14 +8,14 @@ use lib.Dec.{ltb, leb}
 use lib.IntN.{ℤ}
 use lib.ListN.{length, take, drop, length-append}
 use lib.Seq.{take-at, drop-at, drop-append-add, drop-drop}
-use borrow.Author.Tests.{lt-ltb, ltb-true, lt-leb, le-leb}
+use borrow.Author.Tests.{ltb-true, lt-leb, le-leb}
 use Rattle.feefrac.specs.declared.FeeFrac.{FeeFrac}
 use Rattle.feefrac.specs.Rate.{rateAt, rankOrder, isGreater}
 use Rattle.txset.specs.declared.TxSet.{TxSet}
 use Rattle.lists.specs.Below.{bit, countFrom, listFrom}
 use Rattle.lists.specs.Lists.{elem, anyOf, overwrite}
-use Rattle.txset.specs.Sets.{positions, isPosition, mem, members, size, isEmpty, setAt}
-use Rattle.txset.proofs.Sets.{members-elem, size-members}
+use Rattle.txset.specs.Sets.{positions, isPosition, mem, members, size, isEmpty, setAt, memAt}
+use Rattle.txset.proofs.Sets.{members-elem, size-members, full-mem, size-most}
 use Rattle.txset.proofs.Walk.{walk-done}
 use Rattle.feeset.specs.Total.{total}
 use Rattle.feeset.specs.Scan.{best, ranksAbove}
@@ -24,7 +24,7 @@ use Rattle.candidates.specs.Candidates.{appendAncestors, appendFor, roun
 use Rattle.candidates.specs.Steps.{ancestorIn, fewerIn, sorted, Turned, GaveBack, Appended}
 use Rattle.lists.proofs.Bools.{and-left}
 use Rattle.lists.proofs.Lists.{elem-append, without-append}
-use Rattle.lists.proofs.Ranges.{list-below, count-below, count-le, count-parts}
+use Rattle.lists.proofs.Ranges.{list-below, count-below, count-parts}
 use Rattle.feeset.proofs.Scan.{best-ext}
 use Rattle.candidates.proofs.Sums.{back-append, back-ext}
 
@@ -37,43 +37,31 @@ rounds-none fs ss n anc (suc k) out e =
     ap (λ (l : List ℕ). rounds fs ss n anc k (appendFor n anc out (best (ranksAbove (ancestorSum fs ss n anc out)) l))) e
     ∙ rounds-none fs ss n anc k out e
 
--- whether a is an ancestor of i, in sets given by words
-abbrev pub anc : List ℕ → ℕ → ℕ → Bool
-anc ws i = mem (setAt ws i)
-
 -- the members are the first n positions, and the sets are given by words
 module _ (ws : List ℕ) (n : ℕ) (few : n ≤ positions) (all : TxSet) (full : (i : ℕ) → mem all i ≡ (isPosition i && ltb i n)) where
   -- a member
   pub all-mem : (i : ℕ) → mem all i ≡ ltb i n
-  all-mem i = full i ∙ go (ltb i n) refl
-    where
-      go : (b : Bool) → ltb i n ≡ b → (isPosition i && ltb i n) ≡ ltb i n
-      go true e = let l : i < n = ltb-true i n e in ap (λ (b : Bool). b && ltb i n) (lt-ltb i positions (omega arith))
-      go false e = rw e (and-false (isPosition i))
+  all-mem = full-mem n all few full
 
   -- an ancestor
-  in-all : (i a : ℕ) → ancestorIn ws all i a ≡ (ltb a n && anc ws i a)
+  in-all : (i a : ℕ) → ancestorIn ws all i a ≡ (ltb a n && memAt ws i a)
   unfolding ancestorIn
-  in-all i a = ap (λ (b : Bool). anc ws i a && b) (all-mem a) ∙ and-comm (anc ws i a) (ltb a n)
+  in-all i a = ap (λ (b : Bool). memAt ws i a && b) (all-mem a) ∙ and-comm (memAt ws i a) (ltb a n)
 
   -- the ancestors that the code counts
-  pub ancestors-below : (i : ℕ) → listFrom (ancestorIn ws all i) positions 0 ≡ listFrom (anc ws i) n 0
-  ancestors-below i = list-below (ancestorIn ws all i) (anc ws i) n positions few (in-all i)
+  pub ancestors-below : (i : ℕ) → listFrom (ancestorIn ws all i) positions 0 ≡ listFrom (memAt ws i) n 0
+  ancestors-below i = list-below (ancestorIn ws all i) (memAt ws i) n positions few (in-all i)
 
-  pub fewer-below : (x y : ℕ) → fewerIn ws all x y ≡ fewerAncestors n (anc ws) x y
+  pub fewer-below : (x y : ℕ) → fewerIn ws all x y ≡ fewerAncestors n (memAt ws) x y
   unfolding fewerIn fewerAncestors
   fewer-below x y = ap₂ ltb (counted x) (counted y)
     where
-      counted : (i : ℕ) → countFrom (ancestorIn ws all i) positions 0 ≡ countFrom (anc ws i) n 0
-      counted i = count-below (ancestorIn ws all i) (anc ws i) n positions few (in-all i)
+      counted : (i : ℕ) → countFrom (ancestorIn ws all i) positions 0 ≡ countFrom (memAt ws i) n 0
+      counted i = count-below (ancestorIn ws all i) (memAt ws i) n positions few (in-all i)
 
   -- there are no more than n
   pub size-all : size all ≤ n
-  unfolding size
-  size-all =
-      let e : countFrom (mem all) positions 0 ≡ countFrom (λ i. true) n 0 =
-      count-below (mem all) (λ i. true) n positions few (λ i. all-mem i ∙ sym (and-true (ltb i n))) in
-      omega (arith, e, count-le (λ i. true) n 0)
+  size-all = size-most all n few (λ i e. ltb-true i n (sym (all-mem i) ∙ e))
 
 -- the loop of `ancestor_order`: `out` are out, in their order, at the start of `order`, and `todo` are left
 pub record Taking
@@ -86,12 +74,12 @@ pub record Taking
     (todo : TxSet)
     (len round : ℕ) : Type 0 where
   pub out : List ℕ
-  pub goes : rounds fs ss n (anc ws) (n - round) out ≡ rounds fs ss n (anc ws) n []
+  pub goes : rounds fs ss n (memAt ws) (n - round) out ≡ rounds fs ss n (memAt ws) n []
   pub upto : round ≤ n
   pub count : len ≡ length out
   pub sum : len + size todo ≤ n
   pub left : (i : ℕ) → mem todo i ≡ (ltb i n && not (elem i out))
-  pub sums : (i : ℕ) → mem todo i ≡ true → rateAt feesums sizesums i ≡ ancestorSum fs ss n (anc ws) out i
+  pub sums : (i : ℕ) → mem todo i ≡ true → rateAt feesums sizesums i ≡ ancestorSum fs ss n (memAt ws) out i
   pub fees : length feesums ≡ positions
   pub sizes : length sizesums ≡ positions
   pub are : order ≡ out ++ drop len room
@@ -112,7 +100,7 @@ module _
   unfolding ancestorSum givenBack elem anyOf
   take-start feesums sizesums a b e = record {
     out = [];
-    goes = ap (λ (k : ℕ). rounds fs ss n (anc ws) k []) (omega arith);
+    goes = ap (λ (k : ℕ). rounds fs ss n (memAt ws) k []) (omega arith);
     upto = omega arith;
     count = refl;
     sum = omega (arith, size-all ws n few all full);
@@ -137,21 +125,21 @@ module _
     todo-members = list-below (mem todo) (λ i. not (elem i (h .out))) n positions few (h .left)
 
     -- after n rounds, or when nothing is left, all that is to be taken is out
-    pub take-stop : n ≤ round → h .out ≡ rounds fs ss n (anc ws) n []
+    pub take-stop : n ≤ round → h .out ≡ rounds fs ss n (memAt ws) n []
     unfolding rounds
-    take-stop l = let e : n - round ≡ 0 = omega arith in ap (λ (k : ℕ). rounds fs ss n (anc ws) k (h .out)) (sym e) ∙ h .goes
+    take-stop l = let e : n - round ≡ 0 = omega arith in ap (λ (k : ℕ). rounds fs ss n (memAt ws) k (h .out)) (sym e) ∙ h .goes
 
-    pub take-empty : isEmpty todo ≡ true → h .out ≡ rounds fs ss n (anc ws) n []
-    take-empty e = sym (rounds-none fs ss n (anc ws) (n - round) (h .out) (sym todo-members ∙ walk-done todo e)) ∙ h .goes
+    pub take-empty : isEmpty todo ≡ true → h .out ≡ rounds fs ss n (memAt ws) n []
+    take-empty e = sym (rounds-none fs ss n (memAt ws) (n - round) (h .out) (sym todo-members ∙ walk-done todo e)) ∙ h .goes
 
     -- the candidate of the definition is that of the code
-    candidate-is : candidate fs ss n (anc ws) (h .out) ≡ best (ranksAbove (rateAt feesums sizesums)) (members todo)
+    candidate-is : candidate fs ss n (memAt ws) (h .out) ≡ best (ranksAbove (rateAt feesums sizesums)) (members todo)
     unfolding candidate ranksAbove
     candidate-is =
-        ap (best (ranksAbove (ancestorSum fs ss n (anc ws) (h .out)))) (sym todo-members)
+        ap (best (ranksAbove (ancestorSum fs ss n (memAt ws) (h .out)))) (sym todo-members)
         ∙ best-ext _ _ (members todo) (λ x y p q. ap₂ (λ (a b : FeeFrac). isGreater (rankOrder a b)) (sym (sum-of x p)) (sym (sum-of y q)))
       where
-        sum-of : (x : ℕ) → elem x (members todo) ≡ true → rateAt feesums sizesums x ≡ ancestorSum fs ss n (anc ws) (h .out) x
+        sum-of : (x : ℕ) → elem x (members todo) ≡ true → rateAt feesums sizesums x ≡ ancestorSum fs ss n (memAt ws) (h .out) x
         sum-of x p = h .sums x (sym (members-elem todo x) ∙ p)
 
     -- t is taken: `at` is its set, `some` its ancestors that are left, and `rest` what is left without them
@@ -163,11 +151,11 @@ module _
         (shared : (i : ℕ) → mem some i ≡ (mem at i && mem todo i))
         (without : (i : ℕ) → mem rest i ≡ (mem todo i && not (mem some i))) where
       -- the ones of `some` that are not in `gone` are the ancestors that are not out
-      some-left : (gone : List ℕ) (a : ℕ) → (mem some a && not (elem a gone)) ≡ (ltb a n && (anc ws t a && not (elem a (h .out ++ gone))))
+      some-left : (gone : List ℕ) (a : ℕ) → (mem some a && not (elem a gone)) ≡ (ltb a n && (memAt ws t a && not (elem a (h .out ++ gone))))
       some-left gone a =
           ap (λ (b : Bool). b && not (elem a gone)) (shared a ∙ ap₂ _&&_ (ap (λ (s : TxSet). mem s a) at-is) (h .left a))
-          ∙ go (anc ws t a) (ltb a n) (elem a (h .out)) (elem a gone)
-          ∙ ap (λ (b : Bool). ltb a n && (anc ws t a && not b)) (sym (elem-append a (h .out) gone))
+          ∙ go (memAt ws t a) (ltb a n) (elem a (h .out)) (elem a gone)
+          ∙ ap (λ (b : Bool). ltb a n && (memAt ws t a && not b)) (sym (elem-append a (h .out) gone))
         where
           go : (x l o g : Bool) → ((x && (l && not o)) && not g) ≡ (l && (x && not (o || g)))
           go true true true g = refl
@@ -178,32 +166,32 @@ module _
 
       -- appending them one by one is appending them after what is out
       appends : (k : ℕ) (gone : List ℕ)
-          → appendAncestors n (anc ws) t k (h .out ++ gone) ≡ h .out ++ sorted (fewerIn ws all) (mem some) k gone
+          → appendAncestors n (memAt ws) t k (h .out ++ gone) ≡ h .out ++ sorted (fewerIn ws all) (mem some) k gone
       unfolding appendAncestors sorted remainingAncestors
       appends zero gone = refl
       appends (suc k) gone =
           let left = listFrom (λ a. mem some a && not (elem a gone)) positions 0 in
-          let e : best (fewerAncestors n (anc ws)) (remainingAncestors n (anc ws) t (h .out ++ gone)) ≡ best (fewerIn ws all) left =
-          ap (best (fewerAncestors n (anc ws))) (sym (list-below _ _ n positions few (some-left gone)))
+          let e : best (fewerAncestors n (memAt ws)) (remainingAncestors n (memAt ws) t (h .out ++ gone)) ≡ best (fewerIn ws all) left =
+          ap (best (fewerAncestors n (memAt ws))) (sym (list-below _ _ n positions few (some-left gone)))
           ∙ best-ext _ _ left (λ x y _ _. sym (fewer-below ws n few all full x y)) in
-          ap (appendAncestors n (anc ws) t k)
+          ap (appendAncestors n (memAt ws) t k)
           (append-assoc (h .out) gone _ ∙ ap (λ (l : List ℕ). h .out ++ (gone ++ l)) e)
           ∙ appends k (gone ++ best (fewerIn ws all) left)
 
-      some-members : members some ≡ remainingAncestors n (anc ws) t (h .out)
+      some-members : members some ≡ remainingAncestors n (memAt ws) t (h .out)
       unfolding members remainingAncestors elem anyOf
       some-members =
-          list-below (mem some) (λ a. anc ws t a && not (elem a (h .out))) n positions few
+          list-below (mem some) (λ a. memAt ws t a && not (elem a (h .out))) n positions few
           (λ a.
           sym (and-true (mem some a)) ∙ some-left [] a
-          ∙ ap (λ (l : List ℕ). ltb a n && (anc ws t a && not (elem a l))) (append-nil (h .out)))
+          ∙ ap (λ (l : List ℕ). ltb a n && (memAt ws t a && not (elem a l))) (append-nil (h .out)))
 
       -- so a round appends them
-      appended : appendFor n (anc ws) (h .out) (candidate fs ss n (anc ws) (h .out)) ≡ h .out ++ sorted (fewerIn ws all) (mem some) (size some) []
+      appended : appendFor n (memAt ws) (h .out) (candidate fs ss n (memAt ws) (h .out)) ≡ h .out ++ sorted (fewerIn ws all) (mem some) (size some) []
       unfolding appendFor
       appended =
-          ap (appendFor n (anc ws) (h .out)) (candidate-is ∙ best-is)
-          ∙ ap₂ (appendAncestors n (anc ws) t) (sym (size-members some ∙ ap length some-members)) (sym (append-nil (h .out)))
+          ap (appendFor n (memAt ws) (h .out)) (candidate-is ∙ best-is)
+          ∙ ap₂ (appendAncestors n (memAt ws) t) (sym (size-members some ∙ ap length some-members)) (sym (append-nil (h .out)))
           ∙ appends (size some) []
 
       -- the rest and they are what was left
@@ -260,8 +248,8 @@ module _
             record {
               out = h .out ++ new;
               goes =
-                  ap (rounds fs ss n (anc ws) (n - (round + 1))) (sym appended)
-                  ∙ ap (λ (k : ℕ). rounds fs ss n (anc ws) k (h .out)) (sym next)
+                  ap (rounds fs ss n (memAt ws) (n - (round + 1))) (sym appended)
+                  ∙ ap (λ (k : ℕ). rounds fs ss n (memAt ws) k (h .out)) (sym next)
                   ∙ h .goes;
               upto = omega arith;
               count = rw length-append (omega (arith, app .ends, h .count));
@@ -270,9 +258,9 @@ module _
                   without i ∙ ap₂ (λ (b c : Bool). b && not c) (h .left i) (sym (app .holds i)) ∙ without-append (ltb i n) i (h .out) new;
               sums = λ i m.
                   back i m
-                  ∙ back-ext fs ss (λ t. mem (setAt below t) i) (anc ws i) (below-is i m) (rateAt feesums sizesums i) (take (end - len) (drop len last))
-                  ∙ ap₂ (givenBack fs ss (anc ws i)) (h .sums i (was-left i m)) gone-is
-                  ∙ sym (back-append fs ss (anc ws i) (total fs ss (listFrom (anc ws i) n 0)) (h .out) new);
+                  ∙ back-ext fs ss (λ t. mem (setAt below t) i) (memAt ws i) (below-is i m) (rateAt feesums sizesums i) (take (end - len) (drop len last))
+                  ∙ ap₂ (givenBack fs ss (memAt ws i)) (h .sums i (was-left i m)) gone-is
+                  ∙ sym (back-append fs ss (memAt ws i) (total fs ss (listFrom (memAt ws i) n 0)) (h .out) new);
               fees = a;
               sizes = b;
               are =
@@ -284,10 +272,10 @@ module _
             was-left i m = and-left (mem todo i) (not (mem some i)) (sym (without i) ∙ m)
 
             -- a member is below its ancestors
-            below-is : (i : ℕ) → mem rest i ≡ true → (t : ℕ) → mem (setAt below t) i ≡ anc ws i t
+            below-is : (i : ℕ) → mem rest i ≡ true → (t : ℕ) → mem (setAt below t) i ≡ memAt ws i t
             below-is i m t =
                 turned t i
-                ∙ ap (λ (b : Bool). b && anc ws i t) (and-left (ltb i n) (not (elem i (h .out))) (sym (h .left i) ∙ was-left i m))
+                ∙ ap (λ (b : Bool). b && memAt ws i t) (and-left (ltb i n) (not (elem i (h .out))) (sym (h .left i) ∙ was-left i m))
 
 -- ---- what the function promises
 
@@ -308,7 +296,7 @@ narrow-unfit fs room l = rw (lt-leb (length fs) (length room) l) (and-false (leb
 -- else all that was taken
 pub fit : {fs : List ℤ} {ss ws room order : List ℕ} {feesums : List ℤ} {sizesums : List ℕ} {todo : TxSet} {len round : ℕ}
     → (h : Taking fs ss ws (length fs) room order feesums sizesums todo len round) → length fs ≤ positions → length fs ≤ length room
-    → h .out ≡ rounds fs ss (length fs) (anc ws) (length fs) [] → (len ≡ written fs ss (anc ws) room) × (order ≡ filled fs ss (anc ws) room)
+    → h .out ≡ rounds fs ss (length fs) (memAt ws) (length fs) [] → (len ≡ written fs ss (memAt ws) room) × (order ≡ filled fs ss (memAt ws) room)
 unfolding written filled fits ancestorOrder
 fit {fs} {room = room} {len = len} h a b e =
     let t : (leb (length fs) positions && leb (length fs) (length room)) ≡ true =

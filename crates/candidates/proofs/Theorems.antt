@@ -13,15 +13,16 @@ use Rattle.feefrac.specs.declared.FeeFrac.{FeeFrac}
 use Rattle.feefrac.specs.Rate.{heldSize, difference, rateAt}
 use Rattle.feefrac.proofs.Exact.{difference-exact, abs-difference, abs-exact, exactSum, spread, Within, sumOf}
 use Rattle.lists.specs.Below.{keepIf, countFrom, listFrom}
-use Rattle.lists.specs.Lists.{anyOf, elem, distinct}
-use Rattle.lists.proofs.Below.{elem-in, count-list, list-ext, list-with, list-without}
+use Rattle.lists.specs.Lists.{anyOf, only, elem, distinct}
+use Rattle.lists.proofs.Below.{elem-in, list-ext, list-with, list-without, count-list}
 use Rattle.lists.proofs.Bools.{and-left, and-right}
-use Rattle.lists.proofs.Lists.{elem-head, elem-tail, After}
+use Rattle.lists.proofs.Lists.{elem-head, elem-tail, After, after-none}
 use Rattle.lists.proofs.Ranges.{count-le}
 use Rattle.feeset.specs.Total.{total}
 use Rattle.feeset.proofs.Exact.{feesAt, sizesAt, at-spread, total-fee, total-size}
 use Rattle.candidates.specs.Candidates.{givenBack, ancestorSum, remaining, remainingAncestors, rounds, ancestorOrder}
-use Rattle.candidates.proofs.Kept.{left, next-fresh, keeps-rounds, Once, once-none, once-more, rounds-all, after-none, after-more}
+use Rattle.candidates.proofs.Kept.{next-fresh, keeps-rounds, rounds-all, after-more}
+use Rattle.lists.proofs.Once.{all-there, Once, once-none, once-more, once-missing}
 
 module _ (fs : List ℤ) (ss : List ℕ) (anc : ℕ → ℕ → Bool) where
   taken : Once (length fs) (ancestorOrder fs ss anc)
@@ -56,11 +57,7 @@ module _ (fs : List ℤ) (ss : List ℕ) (anc : ℕ → ℕ → Bool) where
 
     -- there are as many elements as members
     pub as-many : length (ancestorOrder fs ss anc) ≡ length fs
-    unfolding remaining
-    as-many =
-        let out = ancestorOrder fs ss anc in
-        let e : left (length fs) out ≡ 0 = count-list (λ i. not (elem i out)) (length fs) 0 ∙ ap length none-left in
-        omega (arith, taken .sum)
+    as-many = let out = ancestorOrder fs ss anc in omega (arith, once-missing (length fs) out taken, all-there (length fs) out every-member)
 
   -- where an ancestor's ancestors are ancestors, and an ancestor has fewer of them: every element comes after its ancestors
   pub after-ancestors :
@@ -72,11 +69,6 @@ module _ (fs : List ℤ) (ss : List ℕ) (anc : ℕ → ℕ → Bool) where
       keeps-rounds (length fs) anc (After (length fs) anc) (after-more (length fs) anc through fewer) fs ss (length fs) [] (after-none (length fs) anc)
 
 -- ---- the sums, with members already out given back
-
--- those of the list that have f, in its order
-unfoldable pub amongst : (ℕ → Bool) → List ℕ → List ℕ
-amongst f [] = []
-amongst f (t ∷ ts) = keepIf (f t) t (amongst f ts)
 
 -- a sum that does not ask for an order: that of the positions that have f is that of those of them in a list, and that of the others
 module _
@@ -116,8 +108,8 @@ module _
         go true q = rw (eqb-true j t q, e)
         go false q = and-true (f j && not (elem j ts))
 
-    next : (b : Bool) → f t ≡ b → add (all (amongst f ts)) (all (listFrom (λ a. f a && not (elem a ts)) n 0))
-        ≡ add (all (keepIf b t (amongst f ts))) (all (listFrom (λ a. f a && not (elem a (t ∷ ts))) n 0))
+    next : (b : Bool) → f t ≡ b → add (all (only f ts)) (all (listFrom (λ a. f a && not (elem a ts)) n 0))
+        ≡ add (all (keepIf b t (only f ts))) (all (listFrom (λ a. f a && not (elem a (t ∷ ts))) n 0))
     next true e =
         let g : ℕ → Bool = λ a. f a && not (elem a ts) in
         let g' : ℕ → Bool = λ a. f a && not (elem a (t ∷ ts)) in
@@ -126,16 +118,16 @@ module _
         let high = listFrom g (0 + n - suc t) (suc t) in
         let with' : listFrom g n 0 ≡ low ++ (t ∷ high) = list-with g g' n 0 t (omega arith) (omega arith) at (λ j _ _. less j) in
         let without' : listFrom g' n 0 ≡ low ++ high = list-without g g' n 0 t (omega arith) (omega arith) at (λ j _ _. less j) in
-        ap (add (all (amongst f ts))) (ap all with' ∙ middle t low high ∙ ap (λ (l : List ℕ). add (one t) (all l)) (sym without'))
-        ∙ sym (assoc (all (amongst f ts)) (one t) (all (listFrom g' n 0)))
-        ∙ ap (λ (a : M). add a (all (listFrom g' n 0))) (comm (all (amongst f ts)) (one t) ∙ sym (cons t (amongst f ts)))
+        ap (add (all (only f ts))) (ap all with' ∙ middle t low high ∙ ap (λ (l : List ℕ). add (one t) (all l)) (sym without'))
+        ∙ sym (assoc (all (only f ts)) (one t) (all (listFrom g' n 0)))
+        ∙ ap (λ (a : M). add a (all (listFrom g' n 0))) (comm (all (only f ts)) (one t) ∙ sym (cons t (only f ts)))
     next false e =
-        ap (λ (l : List ℕ). add (all (amongst f ts)) (all l))
+        ap (λ (l : List ℕ). add (all (only f ts)) (all l))
         (list-ext (λ a. f a && not (elem a ts)) (λ a. f a && not (elem a (t ∷ ts))) n 0 (λ j _ _. sym (less j ∙ other e j)))
 
   in-parts : (f : ℕ → Bool) (n : ℕ) (out : List ℕ) → distinct out ≡ true → ((t : ℕ) → elem t out ≡ true → t < n)
-      → all (listFrom f n 0) ≡ add (all (amongst f out)) (all (listFrom (λ a. f a && not (elem a out)) n 0))
-  unfolding amongst distinct elem anyOf
+      → all (listFrom f n 0) ≡ add (all (only f out)) (all (listFrom (λ a. f a && not (elem a out)) n 0))
+  unfolding only distinct elem anyOf
   in-parts f n [] d h =
       ap all (list-ext f (λ a. f a && not (elem a [])) n 0 (λ j _ _. sym (and-true (f j))))
       ∙ sym (nil (all (listFrom (λ a. f a && not (elem a [])) n 0)))
@@ -146,14 +138,14 @@ module _
 module _ (fs : List ℤ) (ss : List ℕ) (isAnc : ℕ → Bool) where
   -- what is given back is taken off exactly, where the fees, signs aside, stay below 2^63 together; so it is after each step, as this
   -- holds of every list
-  pub back-fee : (acc : FeeFrac) (out : List ℕ) → natAbs (acc .fee) + spread (feesAt fs (amongst isAnc out)) < 9223372036854775808
-      → givenBack fs ss isAnc acc out .fee ≡ acc .fee -ℤ exactSum (feesAt fs (amongst isAnc out))
-  unfolding givenBack amongst exactSum spread rateAt
+  pub back-fee : (acc : FeeFrac) (out : List ℕ) → natAbs (acc .fee) + spread (feesAt fs (only isAnc out)) < 9223372036854775808
+      → givenBack fs ss isAnc acc out .fee ≡ acc .fee -ℤ exactSum (feesAt fs (only isAnc out))
+  unfolding givenBack only exactSum spread rateAt
   back-fee acc [] h = sym (+ℤ-idr (acc .fee))
   back-fee acc (t ∷ ts) h = go (isAnc t) h (λ a k. back-fee a ts k)
     where
       rest : List ℕ
-      rest = amongst isAnc ts
+      rest = only isAnc ts
 
       go : (b : Bool) → natAbs (acc .fee) + spread (feesAt fs (keepIf b t rest)) < 9223372036854775808
           → ((a : FeeFrac) → natAbs (a .fee) + spread (feesAt fs rest) < 9223372036854775808
@@ -169,13 +161,13 @@ module _ (fs : List ℤ) (ss : List ℕ) (isAnc : ℕ → Bool) where
       go false h k = k acc h
 
   -- the sizes that are given back are taken off together, down to 0
-  pub back-size : (acc : FeeFrac) (out : List ℕ) → givenBack fs ss isAnc acc out .size ≡ acc .size - sumOf (sizesAt ss (amongst isAnc out))
-  unfolding givenBack amongst sumOf rateAt difference
+  pub back-size : (acc : FeeFrac) (out : List ℕ) → givenBack fs ss isAnc acc out .size ≡ acc .size - sumOf (sizesAt ss (only isAnc out))
+  unfolding givenBack only sumOf rateAt difference
   back-size acc [] = omega arith
   back-size acc (t ∷ ts) = go (isAnc t) (λ a. back-size a ts)
     where
       rest : List ℕ
-      rest = amongst isAnc ts
+      rest = only isAnc ts
 
       go : (b : Bool) → ((a : FeeFrac) → givenBack fs ss isAnc a ts .size ≡ a .size - sumOf (sizesAt ss rest))
           → givenBack fs ss isAnc (cond b (difference acc (rateAt fs ss t)) acc) ts .size ≡ acc .size - sumOf (sizesAt ss (keepIf b t rest))
@@ -185,11 +177,11 @@ module _ (fs : List ℤ) (ss : List ℕ) (isAnc : ℕ → Bool) where
 -- the size of an ancestor sum is that of all the ancestors, held at 2^64 - 1, less that of those that are out, and 0 where that is more
 pub sum-size : (fs : List ℤ) (ss : List ℕ) (n : ℕ) (anc : ℕ → ℕ → Bool) (out : List ℕ) (i : ℕ)
     → ancestorSum fs ss n anc out i .size
-    ≡ heldSize (sumOf (sizesAt ss (listFrom (anc i) n 0))) - sumOf (sizesAt ss (amongst (anc i) out))
+    ≡ heldSize (sumOf (sizesAt ss (listFrom (anc i) n 0))) - sumOf (sizesAt ss (only (anc i) out))
 unfolding ancestorSum
 sum-size fs ss n anc out i =
     back-size fs ss (anc i) (total fs ss (listFrom (anc i) n 0)) out
-    ∙ ap (λ (k : ℕ). k - sumOf (sizesAt ss (amongst (anc i) out))) (total-size fs ss (listFrom (anc i) n 0))
+    ∙ ap (λ (k : ℕ). k - sumOf (sizesAt ss (only (anc i) out))) (total-size fs ss (listFrom (anc i) n 0))
 
 -- an ancestor sum, after some members went out, none of them twice
 module _
@@ -206,7 +198,7 @@ module _
   ancestors = listFrom (anc i) n 0
 
   gone : List ℕ
-  gone = amongst (anc i) out
+  gone = only (anc i) out
 
   fees-parts : exactSum (feesAt fs ancestors) ≡ exactSum (feesAt fs gone) +ℤ exactSum (feesAt fs (remainingAncestors n anc i out))
   unfolding ancestors gone remainingAncestors exactSum
@@ -232,7 +224,7 @@ module _
 
     -- fees within the limits, at most 64 members: the fee is, as an integer, that of all the ancestors less that of those that are out, and
     -- is never held at an end
-    pub sum-fee : ancestorSum fs ss n anc out i .fee ≡ exactSum (feesAt fs (listFrom (anc i) n 0)) -ℤ exactSum (feesAt fs (amongst (anc i) out))
+    pub sum-fee : ancestorSum fs ss n anc out i .fee ≡ exactSum (feesAt fs (listFrom (anc i) n 0)) -ℤ exactSum (feesAt fs (only (anc i) out))
     unfolding ancestorSum ancestors gone
     sum-fee =
         let e : total fs ss ancestors .fee ≡ exactSum (feesAt fs ancestors) = total-fee fs ss within ancestors few-ancestors in

@@ -15,7 +15,7 @@ use Rattle.lists.specs.Below.{anyFrom}
 use Rattle.txset.specs.Sets.{positions, isPosition, mem, setAt, putAt, Joined}
 use Rattle.lists.proofs.Numbers.{by-number, below-here, below-else, flip}
 use Rattle.ways.specs.Ways.{reach, isCyclic}
-use Rattle.ways.proofs.Counts.{any-more}
+use Rattle.lists.proofs.Ranges.{any-more}
 use Rattle.ways.proofs.Ways.{reach-is, way-from}
 use Rattle.txset.proofs.Sets.{mem-position, length-put, put-at, put-else, at-zeros}
 use Rattle.txset.proofs.Joins.{joined-at, turned-more}
@@ -23,7 +23,8 @@ use Rattle.depgraph.specs.declared.DepGraph.{DepGraph}
 use Rattle.depgraph.specs.Closed.{Closed}
 use Rattle.depgraph.specs.Graph.{isParent, isAbove, isAncestor}
 use Rattle.depgraph.specs.Steps.{Holds, nothing, withOwn, Owning}
-use Rattle.depgraph.proofs.Parents.{among, asked, parent-asked}
+use Rattle.depgraph.proofs.Parents.{among, parent-asked}
+use Rattle.lists.proofs.Bools.{asked}
 
 -- the sets hold any relation that agrees
 pub holds-as : {f g : ℕ → ℕ → Bool} {up down : List ℕ} → Holds f up down → ((i a : ℕ) → f i a ≡ g i a) → Holds g up down

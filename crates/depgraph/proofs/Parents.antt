@@ -1,13 +1,13 @@
 -- Laws of specs/Graph.antt: parents and members are numbers below the count of members. Assumes nothing.
-use mathlib.Core.Path.{_≡_, refl, ap}
-use mathlib.Core.Bool.{Bool, true, false, not, _&&_, and-false}
+use mathlib.Core.Path.{_≡_}
+use mathlib.Core.Bool.{true, not, _&&_}
 use mathlib.Core.Logic.{⊎-elim}
 use mathlib.Core.List.{List}
 use Prim.Native.Nat.{ℕ}
 use lib.Dec.{eqb, ltb}
 use lib.ListN.{length}
 use borrow.Author.Tests.{lt-ltb, ltb-true}
-use Rattle.lists.proofs.Bools.{clash, and-both}
+use Rattle.lists.proofs.Bools.{clash, and-both, asked}
 use Rattle.lists.proofs.Numbers.{lt-or-ge}
 use Rattle.ways.specs.Ways.{Bounded}
 use Rattle.txset.specs.Sets.{mem, setAt}
@@ -26,10 +26,6 @@ among ps =
     parts : (i p : ℕ) → isParent ps i p ≡ true → ((ltb p (length ps) && not (eqb p i)) ≡ true) × (mem (setAt ps i) p ≡ true)
     parts i p h = and-both (ltb p (length ps) && not (eqb p i)) (mem (setAt ps i) p) h
 
--- what implies a test may be asked after it
-pub asked : (b c : Bool) → (c ≡ true → b ≡ true) → (b && c) ≡ c
-asked b true h = ap (λ (d : Bool). d && true) (h refl)
-asked b false h = and-false b
-
+-- so whether one is a member need not be asked of who has a parent
 pub parent-asked : (ps : List ℕ) (i p : ℕ) → (ltb i (length ps) && isParent ps i p) ≡ isParent ps i p
 parent-asked ps i p = asked (ltb i (length ps)) (isParent ps i p) (λ h. lt-ltb i (length ps) (among ps .from i p h))

@@ -2,15 +2,16 @@
 use Prim.Native.Nat.{ℕ, _≤_, _<_}
 use native.Mathlib.Omega.{arith}
 use mathlib.Core.Path.{_≡_, refl, ap}
-use mathlib.Core.Bool.{Bool, true, false, not}
-use mathlib.Core.List.{List, [], _∷_, _++_}
-use lib.ListN.{length, drop, set}
+use mathlib.Core.Bool.{true, false, not}
+use mathlib.Core.List.{List, [], _∷_}
+use lib.ListN.{length, set}
 use lib.Dec.{eqb, ltb}
 use lib.IntN.{ℤ}
 use borrow.Author.Tests.{eq-eqb, not-true}
 use Rattle.lists.specs.Lists.{anyOf, elem, overwrite}
 use Rattle.txset.specs.Sets.{mem, setAt}
-use Rattle.lists.proofs.Bools.{clash, and-both}
+use Rattle.lists.proofs.Bools.{clash, and-both, is-false}
+use Rattle.lists.proofs.Lists.{length-nil}
 use Rattle.ways.specs.Ways.{step, further}
 use Rattle.depgraph.specs.Graph.{isParent, Above, isCyclic}
 use Rattle.depgraph.proofs.Parents.{among}
@@ -30,11 +31,7 @@ few-above ps i a h (step e) = not-own ps i a e (omega (arith, among ps .from i a
 few-above ps i a h (further {p = p} e u) = not-own ps i p e (omega (arith, among ps .from i p e, among ps .to i p e))
 
 pub few-acyclic : (ps : List ℕ) → length ps ≤ 1 → isCyclic ps ≡ false
-few-acyclic ps h = go (isCyclic ps) refl
-  where
-    go : (b : Bool) → isCyclic ps ≡ b → isCyclic ps ≡ false
-    go false e = e
-    go true e = let c = cyclic-is ps e in absurd (few-above ps (c .0) (c .0) h (c .2))
+few-acyclic ps h = is-false (isCyclic ps) (λ e. let c = cyclic-is ps e in absurd (few-above ps (c .0) (c .0) h (c .2)))
 
 -- a list of one element, 0 at most
 one-zero : (l : List ℕ) → length l ≡ 1 → ((i : ℕ) → elem i l ≡ true → i < 1) → l ≡ 0 ∷ []
@@ -43,15 +40,11 @@ one-zero [] e f = absurd (omega arith)
 one-zero (x ∷ []) e f = let z : x ≡ 0 = omega (arith, f x (rw (eq-eqb x x refl))) in ap (λ (y : ℕ). y ∷ []) z
 one-zero (x ∷ y ∷ l) e f = absurd (omega arith)
 
-none-left : (l : List ℕ) → length l ≡ 0 → l ≡ []
-none-left [] e = refl
-none-left (x ∷ l) e = absurd (omega arith)
-
 module _ (fs : List ℤ) (ss ps : List ℕ) (as-long : length ps ≡ length fs) where
   pub none-order : length fs ≡ 0 → linearOrder fs ss ps ≡ []
   none-order h =
       let n = linear-length fs ss ps as-long (few-acyclic ps (omega arith)) in
-      none-left (linearOrder fs ss ps) (omega arith)
+      length-nil (linearOrder fs ss ps) (omega arith)
 
   pub alone-order : length fs ≡ 1 → linearOrder fs ss ps ≡ 0 ∷ []
   alone-order h =

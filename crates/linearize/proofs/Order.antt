@@ -9,7 +9,7 @@ use lib.Dec.{leb}
 use lib.IntN.{ℤ}
 use borrow.Author.Tests.{le-leb}
 use Rattle.lists.specs.Lists.{overwrite}
-use Rattle.txset.specs.Sets.{positions, mem, setAt}
+use Rattle.txset.specs.Sets.{positions, memAt}
 use Rattle.depgraph.specs.declared.DepGraph.{DepGraph}
 use Rattle.depgraph.specs.Closed.{Closed}
 use Rattle.depgraph.proofs.Theorems.{ancestor-refl}
@@ -31,36 +31,30 @@ nothing-behind {n} xs ys e =
     rw (drop-of-length-le ys h) (append-nil xs)
 
 module _ (fs : List ℤ) (ss A D order room : List ℕ) (r : Ready fs A order room) where
-  abbrev anc : ℕ → ℕ → Bool
-  anc = λ i. mem (setAt A i)
-
-  abbrev desc : ℕ → ℕ → Bool
-  desc = λ i. mem (setAt D i)
-
   -- the candidates fill the list
-  taken : (o : List ℕ) → o ≡ Candidates.filled fs ss anc order → o ≡ ancestorOrder fs ss anc
+  taken : (o : List ℕ) → o ≡ Candidates.filled fs ss (memAt A) order → o ≡ ancestorOrder fs ss (memAt A)
   unfolding Candidates.filled Candidates.fits
   taken o e =
-      e ∙ rw (le-leb (length fs) positions (r .few), le-leb (length fs) (length order) (omega (arith, r .long)), as-many fs ss anc (r .own))
-      (nothing-behind (ancestorOrder fs ss anc) order (r .long))
+      e ∙ rw (le-leb (length fs) positions (r .few), le-leb (length fs) (length order) (omega (arith, r .long)), as-many fs ss (memAt A) (r .own))
+      (nothing-behind (ancestorOrder fs ss (memAt A)) order (r .long))
 
-  pub steps : (o mid last : List ℕ) (k : ℕ) (out : List ℕ) → o ≡ Candidates.filled fs ss anc order
-      → mid ≡ cond (leb (length o) 64) (backPass fs ss desc o) o
-      → last ≡ cond (leb (length mid) 64) (forwardPass fs ss anc mid) mid
-      → k ≡ Output.written fs ss anc last room → out ≡ Output.filled fs ss anc last room
-      → (k ≡ length (stepsOf fs ss anc desc)) × (out ≡ stepsOf fs ss anc desc ++ drop k room)
+  pub steps : (o mid last : List ℕ) (k : ℕ) (out : List ℕ) → o ≡ Candidates.filled fs ss (memAt A) order
+      → mid ≡ cond (leb (length o) 64) (backPass fs ss (memAt D) o) o
+      → last ≡ cond (leb (length mid) 64) (forwardPass fs ss (memAt A) mid) mid
+      → k ≡ Output.written fs ss (memAt A) last room → out ≡ Output.filled fs ss (memAt A) last room
+      → (k ≡ length (stepsOf fs ss (memAt A) (memAt D))) × (out ≡ stepsOf fs ss (memAt A) (memAt D) ++ drop k room)
   unfolding stepsOf Output.written Output.filled Output.fits
   steps o mid last k out e f g h w =
-      let first : o ≡ ancestorOrder fs ss anc = taken o e in
-      let n1 : length o ≡ length fs = ap length first ∙ as-many fs ss anc (r .own) in
-      let back : mid ≡ backPass fs ss desc (ancestorOrder fs ss anc) = f ∙ rw (le-leb (length o) 64 (omega (arith, r .few)), first) in
-      let n2 : length mid ≡ length fs = ap length back ∙ back-same fs ss desc (ancestorOrder fs ss anc) .long ∙ as-many fs ss anc (r .own) in
-      let fore : last ≡ forwardPass fs ss anc (backPass fs ss desc (ancestorOrder fs ss anc)) = g ∙ rw (le-leb (length mid) 64 (omega (arith, r .few)), back) in
+      let first : o ≡ ancestorOrder fs ss (memAt A) = taken o e in
+      let n1 : length o ≡ length fs = ap length first ∙ as-many fs ss (memAt A) (r .own) in
+      let back : mid ≡ backPass fs ss (memAt D) (ancestorOrder fs ss (memAt A)) = f ∙ rw (le-leb (length o) 64 (omega (arith, r .few)), first) in
+      let n2 : length mid ≡ length fs = ap length back ∙ back-same fs ss (memAt D) (ancestorOrder fs ss (memAt A)) .long ∙ as-many fs ss (memAt A) (r .own) in
+      let fore : last ≡ forwardPass fs ss (memAt A) (backPass fs ss (memAt D) (ancestorOrder fs ss (memAt A))) = g ∙ rw (le-leb (length mid) 64 (omega (arith, r .few)), back) in
       let n3 : length last ≡ length fs =
-      ap length fore ∙ forward-same fs ss anc (backPass fs ss desc (ancestorOrder fs ss anc)) .long ∙ sym (ap length back) ∙ n2 in
+      ap length fore ∙ forward-same fs ss (memAt A) (backPass fs ss (memAt D) (ancestorOrder fs ss (memAt A))) .long ∙ sym (ap length back) ∙ n2 in
       let fit : (leb (length fs) positions && (leb (length last) (length fs) && leb (length fs) (length room))) ≡ true =
       rw (le-leb (length fs) positions (r .few), le-leb (length last) (length fs) (omega arith), le-leb (length fs) (length room) (r .wide)) in
-      let long : k ≡ length (outputOrder fs ss anc last) = h ∙ rw fit in
+      let long : k ≡ length (outputOrder fs ss (memAt A) last) = h ∙ rw fit in
       (long ∙ rw fore, w ∙ rw (fit, ← long, fore))
 
 -- what the steps ask, of the graph of the members
@@ -75,13 +69,13 @@ ready {fs} {ps} c e h o w = record {
 
 -- of that graph the steps give the order of the cluster
 pub is-linear : (fs : List ℤ) (ss : List ℕ) {ps : List ℕ} {g : DepGraph} → Closed ps g
-    → stepsOf fs ss (λ i. mem (setAt (g .ancestors) i)) (λ i. mem (setAt (g .descendants) i)) ≡ linearOrder fs ss ps
+    → stepsOf fs ss (memAt (g .ancestors)) (memAt (g .descendants)) ≡ linearOrder fs ss ps
 unfolding stepsOf linearOrder postLinearize
 is-linear fs ss c = ap₂ (λ (a d : ℕ → ℕ → Bool). outputOrder fs ss a (forwardPass fs ss a (backPass fs ss d (ancestorOrder fs ss a)))) (ancestors-are c) (descendants-are c)
 
 pub linear-done : (fs : List ℤ) (ss room : List ℕ) {ps : List ℕ} {g : DepGraph} (k : ℕ) (out : List ℕ) → Closed ps g
-    → k ≡ length (stepsOf fs ss (λ i. mem (setAt (g .ancestors) i)) (λ i. mem (setAt (g .descendants) i)))
-    → out ≡ stepsOf fs ss (λ i. mem (setAt (g .ancestors) i)) (λ i. mem (setAt (g .descendants) i)) ++ drop k room
+    → k ≡ length (stepsOf fs ss (memAt (g .ancestors)) (memAt (g .descendants)))
+    → out ≡ stepsOf fs ss (memAt (g .ancestors)) (memAt (g .descendants)) ++ drop k room
     → (k ≡ length (linearOrder fs ss ps)) × (out ≡ overwrite (linearOrder fs ss ps) room)
 linear-done fs ss room {ps} k out c e f =
     let n : k ≡ length (linearOrder fs ss ps) = e ∙ ap length (is-linear fs ss c) in

@@ -1,7 +1,7 @@
 -- Document 01's call linearize: "Then post_linearize, then module 7." Assumes nothing.
 use Prim.Native.Nat.{ℕ}
-use mathlib.Core.List.{List, [], _∷_, _++_}
-use lib.ListN.{length, drop}
+use mathlib.Core.List.{List, [], _∷_}
+use lib.ListN.{length}
 use lib.IntN.{ℤ}
 use Rattle.lists.specs.Lists.{overwrite}
 use Rattle.depgraph.specs.Graph.{isAncestor, isCyclic}

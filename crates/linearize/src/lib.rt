@@ -2,7 +2,7 @@
 ghost use mathlib.Core.Path.{_≡_};
 ghost use mathlib.Core.List.{_++_};
 ghost use lib.ListN.{length, drop};
-ghost use Rattle.txset.specs.Sets.{mem, setAt};
+ghost use Rattle.txset.specs.Sets.{memAt};
 ghost use Rattle.linearize.specs.Linearize.{reply, roomAfter};
 ghost use Rattle.linearize.specs.Steps.{stepsOf, Ready};
 use depgraph::DepGraph;
@@ -63,8 +63,8 @@ fn order_members<'g>(
     room: &mut [usize],
 ) -> usize
     requires { ⌜ Ready (now fees) (now ancestors) (now order) (now room) ⌝ }
-    ensures { λ r. ⌜ r ≡ length (stepsOf (now (fees .entry)) (now (sizes .entry)) (λ i. mem (setAt (now (ancestors .entry)) i)) (λ i. mem (setAt (now (descendants .entry)) i))) ⌝ }
-    ensures { λ r. ⌜ now (room .exit) ≡ stepsOf (now (fees .entry)) (now (sizes .entry)) (λ i. mem (setAt (now (ancestors .entry)) i)) (λ i. mem (setAt (now (descendants .entry)) i)) ++ drop r (now (room .entry)) ⌝ }
+    ensures { λ r. ⌜ r ≡ length (stepsOf (now (fees .entry)) (now (sizes .entry)) (memAt (now (ancestors .entry))) (memAt (now (descendants .entry)))) ⌝ }
+    ensures { λ r. ⌜ now (room .exit) ≡ stepsOf (now (fees .entry)) (now (sizes .entry)) (memAt (now (ancestors .entry))) (memAt (now (descendants .entry))) ++ drop r (now (room .entry)) ⌝ }
 {
     candidates::ancestor_order(fees, sizes, ancestors, order);
     passes::back_pass(fees, sizes, descendants, order);

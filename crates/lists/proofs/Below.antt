@@ -12,7 +12,7 @@ use lib.ListN.{length, length-append, length-map}
 use borrow.Author.Tests.{lt-ltb, le-ltb, ltb-true, ltb-false, eq-eqb, ne-eqb, le-leb, not-true, not-false}
 use Rattle.lists.specs.Lists.{anyOf, elem}
 use Rattle.lists.specs.Below.{keepIf, bit, anyFrom, allFrom, countFrom, firstFrom, listFrom}
-use Rattle.lists.proofs.Bools.{clash, not-or, but-not}
+use Rattle.lists.proofs.Bools.{clash, not-or, but-not, is-true, is-false}
 use Rattle.lists.proofs.Numbers.{lt-or-ge}
 
 -- whether a list has an element
@@ -227,19 +227,12 @@ none-at f k i h j a b =
     first-is f k i .before j a (omega arith)
 
 pub at-none : (f : ℕ → Bool) (k i : ℕ) → ((j : ℕ) → i ≤ j → j < i + k → f j ≡ false) → anyFrom f k i ≡ false
-at-none f k i h = go (anyFrom f k i) refl
-  where
-    go : (b : Bool) → anyFrom f k i ≡ b → anyFrom f k i ≡ false
-    go true e = clash (first-has f k i e) (h (firstFrom f k i) (first-is f k i .from) (first-below f k i e))
-    go false e = e
+at-none f k i h =
+    is-false (anyFrom f k i) (λ e. clash (first-has f k i e) (h (firstFrom f k i) (first-is f k i .from) (first-below f k i e)))
 
 -- where one has it, there is any
 pub any-at : (f : ℕ → Bool) (k i j : ℕ) → i ≤ j → j < i + k → f j ≡ true → anyFrom f k i ≡ true
-any-at f k i j a b h = go (anyFrom f k i) refl
-  where
-    go : (c : Bool) → anyFrom f k i ≡ c → anyFrom f k i ≡ true
-    go true e = e
-    go false e = clash h (none-at f k i e j a b)
+any-at f k i j a b h = is-true (anyFrom f k i) (λ e. clash h (none-at f k i e j a b))
 
 -- where all have it, each number has it, and the other way
 pub all-at : (f : ℕ → Bool) (k i : ℕ) → allFrom f k i ≡ true → (j : ℕ) → i ≤ j → j < i + k → f j ≡ true
@@ -349,6 +342,14 @@ elem-in f (suc k) i j a b =
     ∙ or-false (f i && true) ∙ and-true (f i) ∙ ap f e)
     (λ (m : i < j). elem-skip (f i) j i l (λ e. omega arith) ∙ elem-in f k (suc i) j m (omega arith))
     (eq-or-lt-of-le a)
+
+-- an element of those below n that have f is below n, and has it
+pub elem-below : (f : ℕ → Bool) (n j : ℕ) → elem j (listFrom f n 0) ≡ true → (j < n) × (f j ≡ true)
+elem-below f n j e =
+    ⊎-elim
+    (λ l. (l, sym (elem-in f n 0 j (omega arith) (omega arith)) ∙ e))
+    (λ l. clash e (elem-out f n 0 j (λ a b. omega arith)))
+    (lt-or-ge j n)
 
 -- each element is n or more, and more than the one before it
 abbrev pub ascending : ℕ → List ℕ → Bool

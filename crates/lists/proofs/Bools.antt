@@ -1,7 +1,7 @@
 -- Truth values: the parts of a conjunction that holds, of a disjunction that holds or does not, an implication, and a choice by a test,
 -- which is the library's `cond`. Assumes nothing.
-use mathlib.Core.Path.{_≡_, refl, sym, _∙_, subst}
-use mathlib.Core.Bool.{Bool, true, false, cond, not, _&&_, _||_}
+use mathlib.Core.Path.{_≡_, refl, sym, ap, _∙_, subst}
+use mathlib.Core.Bool.{Bool, true, false, cond, not, _&&_, _||_, and-false}
 use mathlib.Core.Logic.{_⊎_, inl, inr}
 use lib.Dec.{T}
 
@@ -49,7 +49,25 @@ pub but-not : (b c : Bool) → (b && not c) ≡ not (not b || c)
 but-not true c = refl
 but-not false c = refl
 
--- two Bools that are false together are equal
+-- what is true unless it is false is true, and the other way
+pub is-true : (b : Bool) → (b ≡ false → b ≡ true) → b ≡ true
+is-true true h = refl
+is-true false h = h refl
+
+pub is-false : (b : Bool) → (b ≡ true → b ≡ false) → b ≡ false
+is-false true h = h refl
+is-false false h = refl
+
+-- what implies a test may be asked after it
+pub asked : (b c : Bool) → (c ≡ true → b ≡ true) → (b && c) ≡ c
+asked b true h = ap (λ (d : Bool). d && true) (h refl)
+asked b false h = and-false b
+
+-- two Bools that are true together, or false together, are equal
+pub true-together : (a b : Bool) → (a ≡ true → b ≡ true) → (b ≡ true → a ≡ true) → a ≡ b
+true-together true b f g = sym (f refl)
+true-together false b f g = sym (is-false b (λ e. e ∙ sym (g e)))
+
 pub false-together : (a b : Bool) → (a ≡ false → b ≡ false) → (b ≡ false → a ≡ false) → a ≡ b
 false-together true true f g = refl
 false-together true false f g = g refl

@@ -3,3 +3,4 @@ pub mod Numbers
 pub mod Below
 pub mod Ranges
 pub mod Lists
+pub mod Once

@@ -2,16 +2,16 @@
 -- Assumes nothing.
 use mathlib.Core.Path.{_≡_, refl, sym, ap, ap₂, _∙_}
 use mathlib.Core.Bool.{Bool, true, false, not, _&&_, _||_, or-false, or-true, or-assoc, and-false, and-assoc, false≢true, and-eq-true-iff}
-use mathlib.Core.Logic.{⊎-elim}
+use mathlib.Core.Logic.{_⊎_, inl, inr, ⊎-elim}
 use mathlib.Core.List.{List, [], _∷_, _++_, List·Memᴰ, List·Memᴰ·cases-cons, List·Memᴰ·not-nil}
-use Prim.Native.Nat.{ℕ, zero, suc, _+_, _<_}
+use Prim.Native.Nat.{ℕ, zero, suc, _<_}
 use native.Mathlib.Nat.{not-suc-le-zero, le-of-suc-le-suc}
 use native.Mathlib.Omega.{arith}
 use lib.Dec.{eqb}
-use lib.ListN.{length, getD}
-use borrow.Author.Tests.{eq-eqb, ne-eqb, eqb-true, eqb-false}
+use lib.ListN.{length, getD, length-append}
+use borrow.Author.Tests.{eq-eqb, eqb-true, not-true}
 use Rattle.lists.specs.Lists.{anyOf, allOf, elem, distinct, same}
-use Rattle.lists.proofs.Bools.{clash, or-left, or-right}
+use Rattle.lists.proofs.Bools.{clash, and-both, or-left, or-right, or-either}
 use Rattle.lists.proofs.Numbers.{flip}
 
 -- ---- two lists together
@@ -30,9 +30,20 @@ pub elem-append : (i : ℕ) (xs ys : List ℕ) → elem i (xs ++ ys) ≡ (elem i
 unfolding elem
 elem-append i xs ys = any-append (eqb i) xs ys
 
--- what is in the first is in the two
+-- what is in one is in the two, and the other way
 pub elem-left : (i : ℕ) (xs ys : List ℕ) → elem i xs ≡ true → elem i (xs ++ ys) ≡ true
 elem-left i xs ys m = elem-append i xs ys ∙ ap (λ (b : Bool). b || elem i ys) m
+
+pub elem-right : (i : ℕ) (xs ys : List ℕ) → elem i ys ≡ true → elem i (xs ++ ys) ≡ true
+elem-right i xs ys m = elem-append i xs ys ∙ rw m (or-true (elem i xs))
+
+pub in-append : (i : ℕ) (xs ys : List ℕ) → elem i (xs ++ ys) ≡ true → (elem i xs ≡ true) ⊎ (elem i ys ≡ true)
+in-append i xs ys e = or-either (elem i xs) (elem i ys) (sym (elem-append i xs ys) ∙ e)
+
+-- no element: an empty list
+pub length-nil : {A : Type 0} (l : List A) → length l ≡ 0 → l ≡ []
+length-nil [] e = refl
+length-nil (x ∷ l) e = absurd (omega arith)
 
 -- what has f and is in neither of two lists
 pub without-append : (f : Bool) (i : ℕ) (xs ys : List ℕ) → ((f && not (elem i xs)) && not (elem i ys)) ≡ (f && not (elem i (xs ++ ys)))
@@ -56,6 +67,17 @@ elem-head x xs = ap (λ (b : Bool). b || elem x xs) (eq-eqb x x refl)
 pub elem-tail : (i x : ℕ) (xs : List ℕ) → elem i xs ≡ true → elem i (x ∷ xs) ≡ true
 unfolding elem anyOf
 elem-tail i x xs e = ap (λ (b : Bool). eqb i x || b) e ∙ or-true (eqb i x)
+
+pub in-cons : (i x : ℕ) (xs : List ℕ) → elem i (x ∷ xs) ≡ true → (i ≡ x) ⊎ (elem i xs ≡ true)
+unfolding elem anyOf
+in-cons i x xs e = ⊎-elim (λ p. inl (eqb-true i x p)) (λ p. inr p) (or-either (eqb i x) (elem i xs) e)
+
+-- one more at the end
+pub elem-snoc : (i t : ℕ) (xs : List ℕ) → elem i (xs ++ (t ∷ [])) ≡ (elem i xs || eqb i t)
+elem-snoc i t xs = elem-append i xs (t ∷ []) ∙ ap (λ (b : Bool). elem i xs || b) (elem-one i t)
+
+pub in-snoc : (i t : ℕ) (xs : List ℕ) → elem i (xs ++ (t ∷ [])) ≡ true → (elem i xs ≡ true) ⊎ (i ≡ t)
+in-snoc i t xs e = ⊎-elim (λ p. inl p) (λ p. inr (eqb-true i t p)) (or-either (elem i xs) (eqb i t) (sym (elem-snoc i t xs) ∙ e))
 
 -- what stands at an index is an element
 pub elem-at : (xs : List ℕ) (k : ℕ) → k < length xs → elem (getD xs k 0) xs ≡ true
@@ -91,11 +113,53 @@ distinct-front (x ∷ xs) ys e =
     go true b f h = refl
     go false b f h = ap (λ (d : Bool). not (elem x ys) && d) (h f) ∙ and-false (not (elem x ys))
 
+-- what is in one list is not in the other, where none comes twice
+pub distinct-apart : (xs ys : List ℕ) (i : ℕ) → distinct (xs ++ ys) ≡ true → elem i xs ≡ true → elem i ys ≡ false
+unfolding distinct elem anyOf
+distinct-apart [] ys i d e = clash e refl
+distinct-apart (x ∷ xs) ys i d e =
+    let b = and-both (not (elem x (xs ++ ys))) (distinct (xs ++ ys)) d in
+    ⊎-elim
+    (λ z. rw z (or-right (elem x xs) (elem x ys) (sym (elem-append x xs ys) ∙ not-true (elem x (xs ++ ys)) (b .0))))
+    (λ m. distinct-apart xs ys i (b .1) m)
+    (in-cons i x xs e)
+
 -- ---- what stands before what
 
 -- each stands behind those below n on which it depends
 abbrev pub After : ℕ → (ℕ → ℕ → Bool) → List ℕ → Type 0
 After n dep l = (xs ys : List ℕ) (i a : ℕ) → l ≡ xs ++ (i ∷ ys) → a < n → dep i a ≡ true → (a ≡ i → ⊥) → elem a xs ≡ true
+
+-- none stands there
+pub after-none : (n : ℕ) (dep : ℕ → ℕ → Bool) → After n dep []
+after-none n dep xs ys i a e l p q =
+    let z : length (xs ++ (i ∷ ys)) ≡ 0 = ap length (sym e) in absurd (omega (arith, length-append xs (i ∷ ys)))
+
+-- of a list with one more at its end what stands in front of an element: all but the last, and it is the last; or a part of what was there
+pub split-snoc : (l : List ℕ) (t : ℕ) (xs ys : List ℕ) (i : ℕ) → l ++ (t ∷ []) ≡ xs ++ (i ∷ ys)
+    → ((xs ≡ l) × (i ≡ t)) ⊎ ((zs : List ℕ) × (l ≡ xs ++ (i ∷ zs)))
+split-snoc [] t [] ys i e = inl (refl, (cc))
+split-snoc [] t (x ∷ xs) ys i e =
+    let z : [] ≡ xs ++ (i ∷ ys) = cc in
+    let n : length (xs ++ (i ∷ ys)) ≡ 0 = ap length (sym z) in
+    absurd (omega (arith, length-append xs (i ∷ ys)))
+split-snoc (o ∷ l) t [] ys i e = inr (l, (cc))
+split-snoc (o ∷ l) t (x ∷ xs) ys i e =
+    let head : o ≡ x = cc in
+    let tail : l ++ (t ∷ []) ≡ xs ++ (i ∷ ys) = cc in
+    ⊎-elim
+    (λ p. inl (ap₂ _∷_ (sym head) (p .0), p .1))
+    (λ p. inr (p .0, ap₂ _∷_ head (p .1)))
+    (split-snoc l t xs ys i tail)
+
+-- one more, where what it depends on is there
+pub after-snoc : (n : ℕ) (dep : ℕ → ℕ → Bool) (l : List ℕ) (t : ℕ) → ((a : ℕ) → a < n → dep t a ≡ true → (a ≡ t → ⊥) → elem a l ≡ true)
+    → After n dep l → After n dep (l ++ (t ∷ []))
+after-snoc n dep l t there h xs ys i a e m p q =
+    ⊎-elim
+    (λ z. rw (z .0) (there a m (rw (z .1) at p) (rw (z .1) at q)))
+    (λ z. h xs (z .0) i a (z .1) m p q)
+    (split-snoc l t xs ys i e)
 
 -- ---- some and each, by the elements
 
@@ -103,18 +167,17 @@ After n dep l = (xs ys : List ℕ) (i a : ℕ) → l ≡ xs ++ (i ∷ ys) → a 
 pub any-none : (f : ℕ → Bool) (xs : List ℕ) → anyOf f xs ≡ false → (i : ℕ) → elem i xs ≡ true → f i ≡ false
 unfolding elem anyOf
 any-none f [] n i e = clash e refl
-any-none f (x ∷ xs) n i e = go (eqb i x) refl (any-none f xs (or-right (f x) (anyOf f xs) n) i)
-  where
-    go : (b : Bool) → eqb i x ≡ b → (elem i xs ≡ true → f i ≡ false) → f i ≡ false
-    go true d h = ap f (eqb-true i x d) ∙ or-left (f x) (anyOf f xs) n
-    go false d h = h (ap (λ (b : Bool). b || elem i xs) (sym d) ∙ e)
+any-none f (x ∷ xs) n i e =
+    ⊎-elim
+    (λ z. ap f z ∙ or-left (f x) (anyOf f xs) n)
+    (λ m. any-none f xs (or-right (f x) (anyOf f xs) n) i m)
+    (in-cons i x xs e)
 
 pub none-any : (f : ℕ → Bool) (xs : List ℕ) → ((i : ℕ) → elem i xs ≡ true → f i ≡ false) → anyOf f xs ≡ false
 unfolding elem anyOf
 none-any f [] h = refl
 none-any f (x ∷ xs) h =
-    ap (λ (b : Bool). b || anyOf f xs) (h x (ap (λ (b : Bool). b || anyOf (eqb x) xs) (eq-eqb x x refl)))
-    ∙ none-any f xs (λ i e. h i (ap (λ (b : Bool). eqb i x || b) e ∙ or-true (eqb i x)))
+    ap (λ (b : Bool). b || anyOf f xs) (h x (elem-head x xs)) ∙ none-any f xs (λ i e. h i (elem-tail i x xs e))
 
 -- ---- tables
 

@@ -4,6 +4,7 @@ use mathlib.Core.Bool.{Bool, true, false, not, _&&_, _||_}
 use mathlib.Core.List.{List, [], _∷_, _++_}
 use lib.Dec.{eqb}
 use lib.ListN.{length, drop}
+use Rattle.lists.specs.Below.{keepIf}
 
 -- whether some element has the property
 unfoldable pub anyOf : {A : Type 0} → (A → Bool) → List A → Bool
@@ -14,6 +15,11 @@ anyOf f (x ∷ xs) = f x || anyOf f xs
 unfoldable pub allOf : {A : Type 0} → (A → Bool) → List A → Bool
 allOf f [] = true
 allOf f (x ∷ xs) = f x && allOf f xs
+
+-- the elements that have it
+unfoldable pub only : (ℕ → Bool) → List ℕ → List ℕ
+only f [] = []
+only f (x ∷ xs) = keepIf (f x) x (only f xs)
 
 -- whether i is in the list
 unfoldable pub elem : ℕ → List ℕ → Bool

@@ -1,7 +1,6 @@
 -- A scan over the members of a set that are ready, with nothing held until the first of them. Assumes nothing.
 use mathlib.Core.Path.{_≡_, refl, sym, ap, _∙_}
-use mathlib.Core.Bool.{Bool, true, false, cond, not, _&&_, and-eq-true-iff}
-use mathlib.Core.Logic.{⊎-elim}
+use mathlib.Core.Bool.{Bool, true, false, cond, not, _&&_}
 use mathlib.Core.List.{List, [], _∷_, _++_}
 use Prim.Native.Nat.{ℕ, zero, suc, _≤_, _<_}
 use native.Mathlib.Omega.{arith}
@@ -10,14 +9,13 @@ use borrow.Author.Tests.{eq-eqb, ne-eqb}
 use Rattle.txset.specs.declared.TxSet.{TxSet}
 use Rattle.lists.specs.Below.{keepIf, listFrom}
 use Rattle.txset.specs.Sets.{positions, mem, members, size, isEmpty, lowestOf}
-use Rattle.lists.specs.Lists.{elem}
-use Rattle.lists.proofs.Bools.{clash}
-use Rattle.lists.proofs.Below.{elem-in, elem-out}
-use Rattle.lists.proofs.Numbers.{lt-or-ge}
+use Rattle.lists.specs.Lists.{elem, only}
+use Rattle.lists.proofs.Bools.{and-left}
+use Rattle.lists.proofs.Below.{elem-below}
 use Rattle.txset.proofs.Walk.{walk-step, walk-less, walk-done, lowest-position}
 use Rattle.feeset.specs.Scan.{scan, best}
 use Rattle.feeset.proofs.Scan.{best-elem}
-use Rattle.output_order.specs.Rounds.{heldOf, only}
+use Rattle.output_order.specs.Rounds.{heldOf}
 
 -- those of a range that are ready
 pub only-list : (ready f : ℕ → Bool) (k i : ℕ) → only ready (listFrom f k i) ≡ listFrom (λ j. f j && ready j) k i
@@ -36,12 +34,7 @@ best-mem above ready s t e =
     let f : ℕ → Bool = λ j. mem s j && ready j in
     let is : elem t (listFrom f positions 0) ≡ true =
     ap (elem t) (sym (only-list ready (mem s) positions 0)) ∙ best-elem above (only ready (listFrom (mem s) positions 0)) t e in
-    and-eq-true-iff (mem s t) (ready t) .0
-    (⊎-elim
-    (λ l. sym (elem-in f positions 0 t (omega arith) (omega arith)) ∙ is)
-    (λ l. clash is (elem-out f positions 0 t (λ _ m. omega arith)))
-    (lt-or-ge t positions))
-    .0
+    and-left (mem s t) (ready t) (elem-below f positions t is .1)
 
 -- nothing is held, or one
 pub held-none : (held : ℕ) → held ≡ positions → heldOf held ≡ []

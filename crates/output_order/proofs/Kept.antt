@@ -1,25 +1,22 @@
 -- What every round of specs/Output.antt keeps, for any chunks and any ancestors. Assumes nothing.
-use Prim.Native.Nat.{ℕ, zero, suc, _+_, _-_, _<_}
+use Prim.Native.Nat.{ℕ, zero, suc, _<_}
 use native.Mathlib.Omega.{arith}
-use mathlib.Core.Path.{_≡_, refl, sym, ap, ap₂, _∙_}
+use mathlib.Core.Path.{_≡_, refl, sym, ap, _∙_}
 use mathlib.Core.Bool.{Bool, true, false, not, _&&_, _||_}
 use mathlib.Core.Logic.{_⊎_, inl, inr, ⊎-elim}
 use mathlib.Core.List.{List, [], _∷_, _++_, append-nil}
 use lib.Dec.{eqb}
-use lib.ListN.{length, take, getD, length-append}
-use lib.Seq.{take-append-seam, take-append-add, getD-append-seam}
+use lib.ListN.{length}
 use lib.IntN.{ℤ}
 use borrow.Author.Tests.{ne-eqb, not-true}
 use Rattle.feefrac.specs.Rate.{rateAt}
 use Rattle.lists.specs.Below.{listFrom}
 use Rattle.lists.specs.Lists.{anyOf, elem}
-use Rattle.lists.proofs.Numbers.{lt-or-ge}
-use Rattle.lists.proofs.Below.{elem-in, all-at}
+use Rattle.lists.proofs.Below.{elem-in, all-at, elem-below}
 use Rattle.lists.proofs.Bools.{and-left, and-right}
-use Rattle.lists.proofs.Lists.{After}
+use Rattle.lists.proofs.Lists.{After, after-snoc}
 use Rattle.feeset.specs.Scan.{scan, best, ranksAbove}
 use Rattle.feeset.proofs.Scan.{best-elem}
-use Rattle.candidates.proofs.Kept.{elem-below}
 use Rattle.chunking.specs.Orders.{chunkAt}
 use Rattle.output_order.specs.Output.{memberReady, inside, putOut, nextChunk, chunksOut}
 
@@ -110,17 +107,4 @@ ready-out n anc out t h a l p q =
 -- so it may come next
 pub after-ready : (n : ℕ) (anc : ℕ → ℕ → Bool) (out : List ℕ) (t : ℕ) → memberReady n anc out t ≡ true → After n anc out
     → After n anc (out ++ (t ∷ []))
-after-ready n anc out t r h xs ys i a e l p q =
-    let long : length out + 1 ≡ length xs + suc (length ys) =
-    sym (length-append out (t ∷ [])) ∙ ap length e ∙ length-append xs (i ∷ ys) in
-    let front : (k : ℕ) → length out ≡ length xs + k → out ≡ xs ++ take k (i ∷ ys) =
-    λ k m. sym (take-append-seam out (t ∷ [])) ∙ ap₂ take m e ∙ take-append-add xs (i ∷ ys) k in
-    ⊎-elim
-    (λ b. let m : length out ≡ length xs + suc (length out - suc (length xs)) = omega arith in h xs _ i a (front _ m) l p q)
-    (λ b.
-    let m : length out ≡ length xs = omega arith in
-    let same : out ≡ xs = front 0 (omega arith) ∙ append-nil xs in
-    let last : t ≡ i =
-    sym (getD-append-seam out t [] 0) ∙ ap₂ (λ (l : List ℕ) (k : ℕ). getD l k 0) e m ∙ getD-append-seam xs i ys 0 in
-    rw (← same) (ready-out n anc out t r a l (rw (← last) at p) (rw (← last) at q)))
-    (lt-or-ge (length xs) (length out))
+after-ready n anc out t r = after-snoc n anc out t (ready-out n anc out t r)

@@ -3,7 +3,6 @@ pub mod Cutting
 pub mod Putting
 pub mod Ready
 pub mod Rounds
-pub mod Sizes
 pub mod Surveying
 pub mod Kept
 pub mod Progress

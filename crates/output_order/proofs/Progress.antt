@@ -4,36 +4,27 @@ use Prim.Native.Nat.{ℕ, zero, suc, _+_, _≤_, _<_}
 use native.Mathlib.Nat.{eq-or-lt-of-le}
 use native.Mathlib.Omega.{arith}
 use mathlib.Core.Path.{_≡_, refl, sym, ap, ap₂, _∙_}
-use mathlib.Core.Bool.{Bool, true, false, not, _&&_, _||_, or-true, or-comm, or-assoc}
-use mathlib.Core.Logic.{_⊎_, inl, inr, ⊎-elim}
+use mathlib.Core.Bool.{Bool, true, false, not, _&&_, _||_, or-true, or-assoc}
+use mathlib.Core.Logic.{⊎-elim}
 use mathlib.Core.List.{List, [], _∷_, _++_, append-assoc}
 use lib.Dec.{eqb}
 use lib.ListN.{length, take, drop, length-drop, take-append-drop}
 use lib.IntN.{ℤ}
-use borrow.Author.Tests.{eqb-true, eqb-false, ne-eqb, not-true, not-false}
+use borrow.Author.Tests.{eqb-true, eqb-false, not-true, not-false}
 use Rattle.feefrac.specs.Rate.{rateAt}
-use Rattle.lists.specs.Below.{bit, allFrom, countFrom, firstFrom, listFrom}
+use Rattle.lists.specs.Below.{allFrom, countFrom, firstFrom, listFrom}
 use Rattle.lists.specs.Lists.{anyOf, elem}
 use Rattle.lists.proofs.Bools.{clash, and-left, and-right, or-either, implies}
-use Rattle.lists.proofs.Below.{elem-in, list-nil, at-none, all-at, at-all, count-list, count-ext, count-without, first-is}
-use Rattle.lists.proofs.Lists.{elem-append, elem-left, elem-one, elem-head, without-append, After}
-use Rattle.lists.proofs.Ranges.{count-le}
+use Rattle.lists.proofs.Below.{elem-in, all-at, at-all, count-without, first-is, elem-below}
+use Rattle.lists.proofs.Lists.{elem-append, elem-left, elem-one, elem-head, without-append, After, in-append, in-cons}
 use Rattle.lists.proofs.Numbers.{lt-or-ge}
 use Rattle.feeset.specs.Scan.{ranksAbove}
 use Rattle.feefrac.proofs.Exact.{sumOf}
-use Rattle.candidates.proofs.Kept.{elem-below, left, left-less, once-none}
+use Rattle.lists.proofs.Once.{missing, count-in, missing-all, missing-cons, none-missing}
+use Rattle.lists.proofs.Ranges.{count-none, count-zero}
 use Rattle.chunking.specs.Orders.{cut, chunkAt}
 use Rattle.output_order.specs.Output.{chunkAbove, chunkReady, memberReady, inside, putOut, nextChunk, chunksOut}
 use Rattle.output_order.proofs.Kept.{Best, none-or-best, mayCome, may-ready, keeps-inside}
-
--- ---- which of two lists has it
-
-in-cons : (i x : ℕ) (xs : List ℕ) → elem i (x ∷ xs) ≡ true → (i ≡ x) ⊎ (elem i xs ≡ true)
-unfolding elem anyOf
-in-cons i x xs e = ⊎-elim (λ p. inl (eqb-true i x p)) (λ p. inr p) (or-either (eqb i x) (elem i xs) e)
-
-in-append : (i : ℕ) (xs ys : List ℕ) → elem i (xs ++ ys) ≡ true → (elem i xs ≡ true) ⊎ (elem i ys ≡ true)
-in-append i xs ys e = or-either (elem i xs) (elem i ys) (sym (elem-append i xs ys) ∙ e)
 
 -- ---- the first in a list
 
@@ -117,42 +108,6 @@ cut-covers (l ∷ ls) xs h i e =
 
 -- ---- how many are due
 
--- where the count is 0, none has it
-count-zero : (f : ℕ → Bool) (n : ℕ) → countFrom f n 0 ≤ 0 → (i : ℕ) → i < n → f i ≡ false
-count-zero f n z i l = go (f i) refl
-  where
-    go : (b : Bool) → f i ≡ b → f i ≡ false
-    go true e = absurd (omega (arith, count-without f (λ j. f j && not (eqb j i)) n 0 i (omega arith) (omega arith) e (λ j _ _. refl)))
-    go false e = e
-
--- and the other way
-pub count-none : (f : ℕ → Bool) (n : ℕ) → ((i : ℕ) → i < n → f i ≡ false) → countFrom f n 0 ≡ 0
-count-none f n h = count-list f n 0 ∙ ap length (list-nil f n 0 (at-none f n 0 (λ i _ l. h i (omega arith))))
-
--- two properties that agree but at x
-count-but : (f g : ℕ → Bool) (x k i : ℕ) → ((j : ℕ) → (j ≡ x → ⊥) → f j ≡ g j) → countFrom f k i ≤ suc (countFrom g k i)
-unfolding countFrom
-count-but f g x zero i h = omega arith
-count-but f g x (suc k) i h = go (eqb i x) refl (count-but f g x k (suc i) h)
-  where
-    go : (b : Bool) → eqb i x ≡ b → countFrom f k (suc i) ≤ suc (countFrom g k (suc i))
-        → bit (f i) + countFrom f k (suc i) ≤ suc (bit (g i) + countFrom g k (suc i))
-    go true e ih =
-        let z : i ≡ x = eqb-true i x e in
-        omega (arith, count-le f (suc zero) i, count-ext f g k (suc i) (λ j l _. h j (λ y. omega arith)))
-    go false e ih = omega (arith, ap bit (h i (eqb-false i x e)))
-
--- no more of a list's elements are members than it has
-count-list-le : (f : ℕ → Bool) (n : ℕ) (c : List ℕ) → countFrom (λ t. elem t c && f t) n 0 ≤ length c
-unfolding elem anyOf
-count-list-le f n [] = omega (arith, count-none (λ t. false) n (λ i _. refl))
-count-list-le f n (x ∷ c) =
-    omega (
-      arith,
-      count-list-le f n c,
-      count-but (λ t. elem t (x ∷ c) && f t) (λ t. elem t c && f t) x n 0 (λ j m. ap (λ (b : Bool). (b || elem j c) && f j) (ne-eqb j x m)),
-    )
-
 -- the members of c that are not out
 abbrev pub due : ℕ → List ℕ → List ℕ → ℕ
 due n c out = countFrom (λ t. elem t c && not (elem t out)) n 0
@@ -163,15 +118,6 @@ due-less n c out t l p q =
     count-without (λ i. elem i c && not (elem i out)) (λ i. elem i c && not (elem i (out ++ (t ∷ [])))) n 0 t (omega arith) (omega arith)
     (ap₂ (λ (a b : Bool). a && not b) p q)
     (λ j _ _. sym (without-append (elem j c) j out (t ∷ [])) ∙ ap (λ (b : Bool). (elem j c && not (elem j out)) && not b) (elem-one j t))
-
--- one more chunk is gone
-left-cons : (r : ℕ) (gone : List ℕ) (k : ℕ) → k < r → elem k gone ≡ false → left r gone ≡ suc (left r (k ∷ gone))
-unfolding elem anyOf
-left-cons r gone k l e =
-    left-less r gone k l e
-    ∙ ap suc
-    (count-ext (λ i. not (elem i (gone ++ (k ∷ [])))) (λ i. not (elem i (k ∷ gone))) r 0
-    (λ j _ _. ap not (elem-append j gone (k ∷ []) ∙ ap (λ (b : Bool). elem j gone || b) (elem-one j k) ∙ or-comm (elem j gone) (eqb j k))))
 
 -- ---- a ready chunk
 
@@ -255,7 +201,7 @@ module _ (n : ℕ) (anc : ℕ → ℕ → Bool) (order : List ℕ) (after : Afte
 
   module _ (fs : List ℤ) (ss : List ℕ) where
     -- while a chunk is left, one goes next
-    next-chunk : (cs : List (List ℕ)) → Parts cs order → (gone out : List ℕ) → Gone n cs gone out → 1 ≤ left (length cs) gone
+    next-chunk : (cs : List (List ℕ)) → Parts cs order → (gone out : List ℕ) → Gone n cs gone out → 1 ≤ missing (length cs) gone
         → (k : ℕ) × Best (chunkAbove fs ss n cs) (mayGo n anc cs gone out) (length cs) k
     next-chunk cs parts gone out g l =
         let some : ℕ → Bool = λ k. not (elem k gone) in
@@ -341,7 +287,7 @@ module _ (fs : List ℤ) (ss : List ℕ) (n : ℕ) (anc : ℕ → ℕ → Bool) 
 -- r rounds made r chunks gone, and put out their members
 pub record Sound (n : ℕ) (cs : List (List ℕ)) (r : ℕ) (s : Stage) : Type 0 where
   pub outs : Gone n cs (s .gone) (s .out)
-  pub many : left (length cs) (s .gone) + r ≡ length cs
+  pub many : missing (length cs) (s .gone) + r ≡ length cs
 
 module _
     (n : ℕ)
@@ -360,7 +306,7 @@ module _
   gone-more gone out k g h j i e l m =
       let c = chunkAt cs k in
       ⊎-elim
-      (λ z. inside-all n anc order after fs ss whole c (length c) out h (count-list-le (λ t. not (elem t out)) n c) i l
+      (λ z. inside-all n anc order after fs ss whole c (length c) out h (count-in c (λ t. elem t c && not (elem t out)) n (λ t. and-left (elem t c) (not (elem t out)))) i l
       (ap (λ (x : ℕ). elem i (chunkAt cs x)) (sym z) ∙ m))
       (λ z. inside-keeps fs ss n anc c (length c) out i (g j i z l m))
       (in-cons j k gone e)
@@ -380,13 +326,13 @@ module _
       rw (b .1 .is)
       (record {
         outs = gone-more (s .gone) (s .out) k (h .outs) ready;
-        many = omega (arith, h .many, left-cons (length cs) (s .gone) k (b .1 .below) (not-true (elem k (s .gone)) left'));
+        many = omega (arith, h .many, missing-cons (length cs) (s .gone) k (b .1 .below) (not-true (elem k (s .gone)) left'));
       })
 
   -- so it is in every round
   pub sound : (r : ℕ) → r ≤ length cs → Sound n cs r (stage fs ss n anc cs r)
   unfolding stage elem anyOf
-  sound zero l = record { outs = λ k i e. clash e refl; many = omega (arith, once-none (length cs) .sum) }
+  sound zero l = record { outs = λ k i e. clash e refl; many = omega (arith, missing-all (length cs)) }
   sound (suc r) l = sound-more r (stage fs ss n anc cs r) l (sound r (omega arith))
 
   -- each round finds a chunk
@@ -400,5 +346,5 @@ module _
   all-out k i l m e =
       let s = stage fs ss n anc cs (length cs) in
       let h = sound (length cs) (omega arith) in
-      let last = not-false (elem k (s .gone)) (count-zero (λ j. not (elem j (s .gone))) (length cs) (omega (arith, h .many)) k l) in
+      let last = none-missing (length cs) (s .gone) (omega (arith, h .many)) k l in
       ap (elem i) (stage-out fs ss n anc cs (length cs) 0 (length cs) (omega arith)) ∙ h .outs k i last m e

@@ -13,19 +13,18 @@ use borrow.Author.Tests.{eqb-true, not-true}
 use Rattle.feefrac.specs.Rate.{rateAt}
 use Rattle.txset.specs.declared.TxSet.{TxSet}
 use Rattle.lists.specs.Below.{listFrom}
-use Rattle.lists.specs.Lists.{elem}
-use Rattle.txset.specs.Sets.{positions, isPosition, mem, members, size, isEmpty, setAt}
-use Rattle.lists.proofs.Lists.{elem-append, elem-one}
+use Rattle.lists.specs.Lists.{elem, only}
+use Rattle.txset.specs.Sets.{positions, isPosition, mem, members, size, isEmpty, memAt}
 use Rattle.lists.proofs.Ranges.{list-below}
-use Rattle.txset.proofs.Sets.{mem-position, size-without}
+use Rattle.lists.proofs.Lists.{elem-snoc}
+use Rattle.txset.proofs.Sets.{mem-position, size-without, position-and, size-most, size-more, size-in}
 use Rattle.txset.proofs.Walk.{walk-done}
 use Rattle.feeset.specs.Scan.{best, ranksAbove}
 use Rattle.output_order.specs.Output.{memberReady, inside}
 use Rattle.output_order.specs.Steps.{All}
-use Rattle.output_order.specs.Rounds.{only, freed, memberOf, Standing, Placed, Put}
+use Rattle.output_order.specs.Rounds.{freed, memberOf, Standing, Placed, Put}
 use Rattle.output_order.proofs.Choices.{only-list, best-mem}
 use Rattle.output_order.proofs.Ready.{freed-ready}
-use Rattle.output_order.proofs.Sizes.{position-and, size-most, size-more, size-in}
 
 -- ---- the definition, by what is chosen
 
@@ -45,10 +44,6 @@ module _ (fs : List ℤ) (ss : List ℕ) (n : ℕ) (anc : ℕ → ℕ → Bool) 
   inside-stop (suc k) e = inside-step k [] e ∙ ap (inside fs ss n anc c k) (append-nil out) ∙ inside-stop k e
 
 -- ---- a room whose start is written
-
--- one more at the end
-elem-snoc : (i t : ℕ) (xs : List ℕ) → elem i (xs ++ (t ∷ [])) ≡ (elem i xs || eqb i t)
-elem-snoc i t xs = elem-append i xs (t ∷ []) ∙ ap (λ (b : Bool). elem i xs || b) (elem-one i t)
 
 -- one more at the next place
 pub placed-more : {out : List ℕ} {done : TxSet} {len : ℕ} {old room : List ℕ} (next : TxSet) (t : ℕ) → Placed out done len old room → len < length room
@@ -84,10 +79,6 @@ module _ {n : ℕ} {done : TxSet} {len : ℕ} {room : List ℕ} (next : TxSet) (
 
 -- ---- the loop
 
--- the ancestors as sets
-abbrev pub ancs : List ℕ → ℕ → ℕ → Bool
-ancs ancestors i = mem (setAt ancestors i)
-
 -- `left` are the members of the chunk c that are not out
 abbrev pub Rest : ℕ → List ℕ → List ℕ → TxSet → Type 0
 Rest n c out left = (i : ℕ) → mem left i ≡ (ltb i n && (elem i c && not (elem i out)))
@@ -99,7 +90,7 @@ pub record Going (fs : List ℤ) (ss : List ℕ) (n : ℕ) (ancestors c out₀ o
   pub placed : Placed out done len old room
   pub rest : Rest n c out left
   pub enough : size left ≤ rounds
-  pub same : inside fs ss n (ancs ancestors) c rounds out ≡ inside fs ss n (ancs ancestors) c (length c) out₀
+  pub same : inside fs ss n (memAt ancestors) c rounds out ≡ inside fs ss n (memAt ancestors) c (length c) out₀
 
 pub record Putting (fs : List ℤ) (ss : List ℕ) (n : ℕ) (ancestors room₀ : List ℕ) (done₀ : TxSet) (len₀ : ℕ) (left₀ : TxSet)
     (room : List ℕ) (done : TxSet) (len : ℕ) (left : TxSet) : Type 0 where
@@ -133,33 +124,33 @@ module _ {fs : List ℤ} {ss : List ℕ} {n : ℕ} {ancestors room₀ : List ℕ
     {room : List ℕ} {done : TxSet} {len : ℕ} {left : TxSet} {all : TxSet} (p : Putting fs ss n ancestors room₀ done₀ len₀ left₀ room done len left) (h : All n all) where
   -- what is chosen is what the definition takes
   chosen-member : (c out₀ old : List ℕ) (g : Going fs ss n ancestors c out₀ old room done len left)
-      → memberOf fs ss ancestors all left done ≡ nextMember fs ss n (ancs ancestors) c (g .out)
+      → memberOf fs ss ancestors all left done ≡ nextMember fs ss n (memAt ancestors) c (g .out)
   unfolding members
   chosen-member c out₀ old g =
       ap (best (ranksAbove (rateAt fs ss)))
       (only-list (freed ancestors all done) (mem left) positions 0
       ∙ list-below (λ j. mem left j && freed ancestors all done j)
-      (λ t. (elem t c && not (elem t (g .out))) && memberReady n (ancs ancestors) (g .out) t) n positions (h .few)
+      (λ t. (elem t c && not (elem t (g .out))) && memberReady n (memAt ancestors) (g .out) t) n positions (h .few)
       (λ i.
       ap₂ _&&_ (g .rest i) (freed-ready n done (g .out) (g .placed .member) ancestors all i h)
-      ∙ and-assoc (ltb i n) (elem i c && not (elem i (g .out))) (memberReady n (ancs ancestors) (g .out) i)))
+      ∙ and-assoc (ltb i n) (elem i c && not (elem i (g .out))) (memberReady n (memAt ancestors) (g .out) i)))
 
   -- none is ready
   pub putting-stop : (chunk : TxSet) → ((i : ℕ) → mem left₀ i ≡ (mem chunk i && not (mem done₀ i)))
-      → memberOf fs ss ancestors all left done ≡ [] → Put fs ss n (ancs ancestors) chunk done₀ len₀ room₀ done len room
+      → memberOf fs ss ancestors all left done ≡ [] → Put fs ss n (memAt ancestors) chunk done₀ len₀ room₀ done len room
   putting-stop chunk without e = record {
     stands = p .stands;
     puts = λ c out old is q.
         let g = p .puts c out old (λ i.
         without i ∙ ap₂ (λ (a b : Bool). a && not b) (is i) (q .member i) ∙ and-assoc (ltb i n) (elem i c) (not (elem i out))) q in
         subst (λ (o : List ℕ). Placed o done len old room)
-        (sym (inside-stop fs ss n (ancs ancestors) c (g .out) (g .rounds) (sym (chosen-member c out old g) ∙ e)) ∙ g .same)
+        (sym (inside-stop fs ss n (memAt ancestors) c (g .out) (g .rounds) (sym (chosen-member c out old g) ∙ e)) ∙ g .same)
         (g .placed);
   }
 
   -- none is left
   pub putting-done : (chunk : TxSet) → ((i : ℕ) → mem left₀ i ≡ (mem chunk i && not (mem done₀ i)))
-      → isEmpty left ≡ true → Put fs ss n (ancs ancestors) chunk done₀ len₀ room₀ done len room
+      → isEmpty left ≡ true → Put fs ss n (memAt ancestors) chunk done₀ len₀ room₀ done len room
   unfolding best only
   putting-done chunk without e =
       putting-stop chunk without (ap (λ (l : List ℕ). best (ranksAbove (rateAt fs ss)) (only (freed ancestors all done) l)) (walk-done left e))
@@ -189,7 +180,7 @@ module _ {fs : List ℤ} {ss : List ℕ} {n : ℕ} {ancestors room₀ : List ℕ
         group true false d e = refl
         group false b d e = refl
 
-        go : (k : ℕ) → size left ≤ k → inside fs ss n (ancs ancestors) c k (g .out) ≡ inside fs ss n (ancs ancestors) c (length c) out₀
+        go : (k : ℕ) → size left ≤ k → inside fs ss n (memAt ancestors) c k (g .out) ≡ inside fs ss n (memAt ancestors) c (length c) out₀
             → Going fs ss n ancestors c out₀ old (set room len t) done' (len + 1) left'
         go zero l e = absurd (omega (arith, putting-less))
         go (suc k) l e = record {
@@ -202,7 +193,7 @@ module _ {fs : List ℤ} {ss : List ℕ} {n : ℕ} {ancestors room₀ : List ℕ
               ∙ group (ltb i n) (elem i c) (elem i (g .out)) (eqb i t)
               ∙ sym (ap (λ (b : Bool). ltb i n && (elem i c && not b)) (elem-snoc i t (g .out)));
           enough = omega (arith, putting-less);
-          same = sym (inside-step fs ss n (ancs ancestors) c (g .out) k (t ∷ []) (sym (chosen-member c out₀ old g) ∙ is)) ∙ e;
+          same = sym (inside-step fs ss n (memAt ancestors) c (g .out) k (t ∷ []) (sym (chosen-member c out₀ old g) ∙ is)) ∙ e;
         }
 
     pub putting-turn : Putting fs ss n ancestors room₀ done₀ len₀ left₀ (set room len t) done' (len + 1) left'

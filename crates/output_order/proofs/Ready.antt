@@ -10,20 +10,14 @@ use borrow.Author.Tests.{lt-ltb, le-ltb, ltb-true, not-true}
 use Rattle.txset.specs.declared.TxSet.{TxSet}
 use Rattle.lists.specs.Below.{anyFrom, allFrom, firstFrom}
 use Rattle.lists.specs.Lists.{elem}
-use Rattle.txset.specs.Sets.{positions, mem, isSubset, setAt}
+use Rattle.txset.specs.Sets.{positions, mem, isSubset, setAt, memAt}
 use Rattle.lists.proofs.Numbers.{lt-or-ge}
 use Rattle.lists.proofs.Below.{any-at, all-ext, all-at, at-all, first-has, first-below}
-use Rattle.lists.proofs.Bools.{implies}
+use Rattle.lists.proofs.Bools.{implies, true-together}
 use Rattle.txset.proofs.Sets.{subset-mem, mem-subset}
 use Rattle.output_order.specs.Output.{chunkReady, memberReady}
 use Rattle.output_order.specs.Steps.{All, needed}
 use Rattle.output_order.specs.Rounds.{freed}
-
--- two tests that hold together are the same
-both : (a b : Bool) → (a ≡ true → b ≡ true) → (b ≡ true → a ≡ true) → a ≡ b
-both true b f g = sym (f refl)
-both false true f g = g refl
-both false false f g = refl
 
 -- what an implication that holds gives
 imp-elim : (a b : Bool) → (not a || b) ≡ true → a ≡ true → b ≡ true
@@ -42,7 +36,7 @@ freed-is ancestors all done d t h =
 -- f is g below n, and holds past it
 all-below : (f g : ℕ → Bool) (n m : ℕ) → n ≤ m → ((i : ℕ) → i < n → f i ≡ g i) → ((i : ℕ) → n ≤ i → f i ≡ true) → allFrom f m 0 ≡ allFrom g n 0
 all-below f g n m h low high =
-    both (allFrom f m 0) (allFrom g n 0)
+    true-together (allFrom f m 0) (allFrom g n 0)
     (λ e. at-all g n 0 (λ j _ b. sym (low j (omega arith)) ∙ all-at f m 0 e j (omega arith) (omega arith)))
     (λ e. at-all f m 0 (λ j _ b. ⊎-elim (λ l. low j l ∙ all-at g n 0 e j (omega arith) (omega arith)) (λ l. high j l) (lt-or-ge j n)))
 
@@ -50,7 +44,7 @@ all-below f g n m h low high =
 module _ (n : ℕ) (done : TxSet) (out : List ℕ) (member : (i : ℕ) → mem done i ≡ elem i out) where
   -- a member is ready
   pub freed-ready : (ancestors : List ℕ) (all : TxSet) (t : ℕ) → All n all
-      → freed ancestors all done t ≡ memberReady n (λ i. mem (setAt ancestors i)) out t
+      → freed ancestors all done t ≡ memberReady n (memAt ancestors) out t
   unfolding freed memberReady
   freed-ready ancestors all t h =
       all-below
@@ -80,7 +74,7 @@ module _ (n : ℕ) (done : TxSet) (out : List ℕ) (member : (i : ℕ) → mem d
       → isSubset o done ≡ chunkReady n anc out c
   unfolding chunkReady needed
   covered-ready anc c o outside =
-      both (isSubset o done) (chunkReady n anc out c)
+      true-together (isSubset o done) (chunkReady n anc out c)
       (λ h. at-all each n 0 (λ t _ l.
       implies (elem t c) (allFrom (has t) n 0)
       (λ tc. at-all (has t) n 0 (λ a _ m. implies (anc t a) (elem a c || elem a out) (λ ta. out-of h t a l m tc ta (elem a c) refl)))))

@@ -2,7 +2,6 @@
 use mathlib.Core.Path.{_≡_, refl, sym, ap, ap₂, _∙_}
 use mathlib.Core.Bool.{Bool, true, false, cond, not, _&&_, _||_, and-false, and-true, and-eq-true-iff}
 use mathlib.Core.List.{List, [], _∷_, _++_}
-use mathlib.Core.Logic.{⊎-elim}
 use Prim.Native.Nat.{ℕ, zero, suc, _+_, _-_, _≤_, _<_}
 use native.Mathlib.Omega.{arith}
 use lib.Dec.{eqb, ltb, leb}
@@ -12,13 +11,12 @@ use borrow.Author.Tests.{ltb-true, le-leb, lt-leb}
 use Rattle.txset.specs.declared.TxSet.{TxSet}
 use Rattle.lists.specs.Below.{listFrom}
 use Rattle.lists.specs.Lists.{anyOf, elem, overwrite}
-use Rattle.txset.specs.Sets.{positions, isPosition, mem, members, setAt}
+use Rattle.txset.specs.Sets.{positions, isPosition, mem, members, setAt, memAt}
 use Rattle.lists.proofs.Bools.{clash}
-use Rattle.lists.proofs.Below.{elem-out}
 use Rattle.lists.proofs.Ranges.{list-below}
-use Rattle.lists.proofs.Numbers.{lt-or-ge}
-use Rattle.txset.proofs.Sets.{size-members, mem-empty}
-use Rattle.txset.proofs.Walk.{walk-done}
+use Rattle.lists.proofs.Below.{elem-below}
+use Rattle.txset.proofs.Walk.{size-empty}
+use Rattle.txset.proofs.Sets.{mem-empty, full-mem}
 use Rattle.feeset.specs.Scan.{best}
 use Rattle.feeset.proofs.Scan.{best-ext}
 use Rattle.chunking.specs.Orders.{chunksOf, chunkAt}
@@ -26,9 +24,7 @@ use Rattle.output_order.specs.Output.{chunkAbove, chunkReady, inside, pu
 use Rattle.output_order.specs.Steps.{All, Cut, Surveyed}
 use Rattle.output_order.specs.Rounds.{sumAbove, covered, chunkOf, Standing, Placed, Put}
 use Rattle.output_order.proofs.Choices.{only-list, best-mem}
-use Rattle.output_order.proofs.Sizes.{position-and}
 use Rattle.output_order.proofs.Ready.{covered-ready}
-use Rattle.output_order.proofs.Putting.{ancs}
 
 -- ---- the definition, by what is chosen
 
@@ -94,7 +90,7 @@ pub record Known (fs : List ℤ) (ss ancestors order : List ℕ) (all : TxSet) (
     (outsides : List ℕ) (sumFees : List ℤ) (sumSizes : List ℕ) : Type 0 where
   pub whole : All (length fs) all
   pub chunks : Cut (length fs) (chunksOf fs ss order) sets tops r
-  pub survey : Surveyed fs ss (length fs) (ancs ancestors) (chunksOf fs ss order) outsides sumFees sumSizes r
+  pub survey : Surveyed fs ss (length fs) (memAt ancestors) (chunksOf fs ss order) outsides sumFees sumSizes r
   pub short : length order ≤ length fs
   pub long : length tops ≡ positions
 
@@ -108,11 +104,11 @@ pub record Rounds (fs : List ℤ) (ss ancestors order room₀ : List ℕ) (all :
   pub rest : (k : ℕ) → mem left k ≡ (ltb k r && not (elem k gone))
   pub stands : Standing (length fs) done len room
   pub placed : Placed out done len room₀ room
-  pub same : chunksOut fs ss (length fs) (ancs ancestors) (chunksOf fs ss order) (r - round) gone out ≡ outputOrder fs ss (ancs ancestors) order
+  pub same : chunksOut fs ss (length fs) (memAt ancestors) (chunksOf fs ss order) (r - round) gone out ≡ outputOrder fs ss (memAt ancestors) order
 
 -- the full set of n
 pub full-all : {n : ℕ} {s : TxSet} → n ≤ positions → ((i : ℕ) → mem s i ≡ (isPosition i && ltb i n)) → All n s
-full-all {n} h full = record { few = h; are = λ i. full i ∙ position-and i (ltb i n) (λ e. omega (arith, ltb-true i n e)) }
+full-all {n} {s} h full = record { few = h; are = full-mem n s h full }
 
 pub rounds-start : {fs : List ℤ} {ss ancestors order : List ℕ} {all : TxSet} {sets tops : List ℕ} {r : ℕ}
     {outsides : List ℕ} {sumFees : List ℤ} {sumSizes : List ℕ} (room : List ℕ) (left done : TxSet) → Known fs ss ancestors order all sets tops r outsides sumFees sumSizes → length fs ≤ length room
@@ -127,13 +123,13 @@ rounds-start {fs} {ss} {ancestors} {order} {r = r} room left done h place full n
   rest = λ k. full .are k ∙ sym (and-true (ltb k r));
   stands = record {
     below = λ i e. clash e (none i);
-    count = sym (size-members done ∙ ap length (walk-done done (mem-empty done none)));
+    count = sym (size-empty done (mem-empty done none));
     place = place;
   };
   placed = record { member = none; count = refl; are = refl; long = refl };
   same =
       let e : r - 0 ≡ length (chunksOf fs ss order) = omega (arith, h .chunks .count) in
-      ap (λ (m : ℕ). chunksOut fs ss (length fs) (ancs ancestors) (chunksOf fs ss order) m [] []) e;
+      ap (λ (m : ℕ). chunksOut fs ss (length fs) (memAt ancestors) (chunksOf fs ss order) m [] []) e;
 }
 
 module _ {fs : List ℤ} {ss ancestors order room₀ : List ℕ} {all : TxSet} {sets tops : List ℕ} {r : ℕ}
@@ -141,7 +137,7 @@ module _ {fs : List ℤ} {ss ancestors order room₀ : List ℕ} {all : TxSet} {
     (p : Rounds fs ss ancestors order room₀ all sets tops r outsides sumFees sumSizes room left done len round) where
   -- a candidate of the definition
   candidate : ℕ → Bool
-  candidate k = not (elem k (p .gone)) && chunkReady (length fs) (ancs ancestors) (p .out) (chunkAt (chunksOf fs ss order) k)
+  candidate k = not (elem k (p .gone)) && chunkReady (length fs) (memAt ancestors) (p .out) (chunkAt (chunksOf fs ss order) k)
 
   above-same : (x y : ℕ) → x < r → y < r → sumAbove sumFees sumSizes tops x y ≡ chunkAbove fs ss (length fs) (chunksOf fs ss order) x y
   unfolding sumAbove chunkAbove
@@ -149,7 +145,7 @@ module _ {fs : List ℤ} {ss ancestors order room₀ : List ℕ} {all : TxSet} {
 
   -- what is chosen is what the definition takes
   chosen-chunk : chunkOf outsides sumFees sumSizes tops left done
-      ≡ nextChunk fs ss (length fs) (ancs ancestors) (chunksOf fs ss order) (p .gone) (p .out)
+      ≡ nextChunk fs ss (length fs) (memAt ancestors) (chunksOf fs ss order) (p .gone) (p .out)
   unfolding members nextChunk candidate
   chosen-chunk =
       ap (best (sumAbove sumFees sumSizes tops))
@@ -157,18 +153,15 @@ module _ {fs : List ℤ} {ss ancestors order room₀ : List ℕ} {all : TxSet} {
       ∙ list-below (λ j. mem left j && covered outsides done j) candidate r positions (p .known .chunks .few)
       (λ i. ap (λ (b : Bool). b && covered outsides done i) (p .rest i) ∙ ready i (ltb i r) refl))
       ∙ best-ext (sumAbove sumFees sumSizes tops) (chunkAbove fs ss (length fs) (chunksOf fs ss order)) (listFrom candidate r 0)
-      (λ x y ex ey. above-same x y (low x ex) (low y ey))
+      (λ x y ex ey. above-same x y (elem-below candidate r x ex .0) (elem-below candidate r y ey .0))
       ∙ ap (λ (m : ℕ). best (chunkAbove fs ss (length fs) (chunksOf fs ss order)) (listFrom candidate m 0)) (p .known .chunks .count)
     where
       ready : (i : ℕ) (b : Bool) → ltb i r ≡ b → ((b && not (elem i (p .gone))) && covered outsides done i) ≡ (b && candidate i)
       ready i true e =
           ap (λ (b : Bool). not (elem i (p .gone)) && b)
-          (covered-ready (length fs) done (p .out) (p .placed .member) (ancs ancestors) (chunkAt (chunksOf fs ss order) i) (setAt outsides i)
+          (covered-ready (length fs) done (p .out) (p .placed .member) (memAt ancestors) (chunkAt (chunksOf fs ss order) i) (setAt outsides i)
           (p .known .survey .outside i (ltb-true i r e)))
       ready i false e = refl
-
-      low : (x : ℕ) → elem x (listFrom candidate r 0) ≡ true → x < r
-      low x e = ⊎-elim (λ l. l) (λ l. clash e (elem-out candidate r 0 x (λ _ m. omega arith))) (lt-or-ge x r)
 
   -- k is chosen
   module _ (k : ℕ) (is : chunkOf outsides sumFees sumSizes tops left done ≡ k ∷ []) where
@@ -189,7 +182,7 @@ module _ {fs : List ℤ} {ss ancestors order room₀ : List ℕ} {all : TxSet} {
     -- it is taken, and its members are put out
     pub rounds-turn : (left' chunk done' : TxSet) (len' : ℕ) (room' : List ℕ) → round < r
         → ((i : ℕ) → mem left' i ≡ (mem left i && not (eqb i k))) → chunk ≡ setAt sets k
-        → Put fs ss (length fs) (ancs ancestors) chunk done len room done' len' room'
+        → Put fs ss (length fs) (memAt ancestors) chunk done len room done' len' room'
         → Rounds fs ss ancestors order room₀ all sets tops r outsides sumFees sumSizes room' left' done' len' (round + 1)
     unfolding putOut elem anyOf
     rounds-turn left' chunk done' len' room' l less at put =
@@ -199,15 +192,15 @@ module _ {fs : List ℤ} {ss ancestors order room₀ : List ℕ} {all : TxSet} {
         record {
           known = p .known;
           gone = k ∷ p .gone;
-          out = inside fs ss n (ancs ancestors) c (length c) (p .out);
+          out = inside fs ss n (memAt ancestors) c (length c) (p .out);
           within = omega arith;
           rest = λ i. less i ∙ ap (λ (b : Bool). b && not (eqb i k)) (p .rest i) ∙ group (ltb i r) (elem i (p .gone)) (eqb i k);
           stands = put .stands;
           placed = put .puts c (p .out) room₀ (λ i. ap (λ (s : TxSet). mem s i) at ∙ p .known .chunks .sets k chosen-below i) (p .placed);
           same =
               let e : suc (r - (round + 1)) ≡ r - round = omega arith in
-              sym (chunks-step fs ss n (ancs ancestors) cs (p .gone) (p .out) (r - (round + 1)) (k ∷ []) (sym chosen-chunk ∙ is))
-              ∙ ap (λ (m : ℕ). chunksOut fs ss n (ancs ancestors) cs m (p .gone) (p .out)) e
+              sym (chunks-step fs ss n (memAt ancestors) cs (p .gone) (p .out) (r - (round + 1)) (k ∷ []) (sym chosen-chunk ∙ is))
+              ∙ ap (λ (m : ℕ). chunksOut fs ss n (memAt ancestors) cs m (p .gone) (p .out)) e
               ∙ p .same;
         }
       where
@@ -217,18 +210,18 @@ module _ {fs : List ℤ} {ss ancestors order room₀ : List ℕ} {all : TxSet} {
         group false b d = refl
 
   -- where all is out
-  over : p .out ≡ outputOrder fs ss (ancs ancestors) order → Answered fs ss (ancs ancestors) order room₀ len room
+  over : p .out ≡ outputOrder fs ss (memAt ancestors) order → Answered fs ss (memAt ancestors) order room₀ len room
   over e =
-      answers fs ss (ancs ancestors) order room₀ (p .known .whole .few) (p .known .short) (omega (arith, p .stands .place, p .placed .long)) (p .placed) e
+      answers fs ss (memAt ancestors) order room₀ (p .known .whole .few) (p .known .short) (omega (arith, p .stands .place, p .placed .long)) (p .placed) e
 
   -- no chunk is ready
-  pub rounds-stop : chunkOf outsides sumFees sumSizes tops left done ≡ [] → Answered fs ss (ancs ancestors) order room₀ len room
+  pub rounds-stop : chunkOf outsides sumFees sumSizes tops left done ≡ [] → Answered fs ss (memAt ancestors) order room₀ len room
   rounds-stop e =
-      over (sym (chunks-stop fs ss (length fs) (ancs ancestors) (chunksOf fs ss order) (p .gone) (p .out) (r - round) (sym chosen-chunk ∙ e)) ∙ p .same)
+      over (sym (chunks-stop fs ss (length fs) (memAt ancestors) (chunksOf fs ss order) (p .gone) (p .out) (r - round) (sym chosen-chunk ∙ e)) ∙ p .same)
 
   -- each round is over
-  pub rounds-done : r ≤ round → Answered fs ss (ancs ancestors) order room₀ len room
+  pub rounds-done : r ≤ round → Answered fs ss (memAt ancestors) order room₀ len room
   unfolding chunksOut
   rounds-done l =
       let e : 0 ≡ r - round = omega arith in
-      over (ap (λ (m : ℕ). chunksOut fs ss (length fs) (ancs ancestors) (chunksOf fs ss order) m (p .gone) (p .out)) e ∙ p .same)
+      over (ap (λ (m : ℕ). chunksOut fs ss (length fs) (memAt ancestors) (chunksOf fs ss order) m (p .gone) (p .out)) e ∙ p .same)

@@ -14,7 +14,7 @@ use Rattle.feefrac.specs.Rate.{rateAt}
 use Rattle.txset.specs.declared.TxSet.{TxSet}
 use Rattle.lists.specs.Below.{keepIf, anyFrom, listFrom}
 use Rattle.lists.specs.Lists.{anyOf, elem}
-use Rattle.txset.specs.Sets.{positions, mem, members, isEmpty, lowestOf, setAt, putAt}
+use Rattle.txset.specs.Sets.{positions, mem, members, isEmpty, lowestOf, setAt, putAt, memAt}
 use Rattle.lists.proofs.Ranges.{list-below}
 use Rattle.txset.proofs.Sets.{length-put}
 use Rattle.txset.proofs.Walk.{walk-step, walk-done}
@@ -125,7 +125,7 @@ cut-members {n} {cs} {sets} c few k l = list-below (mem (setAt sets k)) (λ i. e
 -- all are written: each set's outside and sum are its chunk's
 pub survey-done : {fs : List ℤ} {ss ancestors : List ℕ} {n : ℕ} {sets outsides : List ℕ} {sumFees : List ℤ} {sumSizes : List ℕ} {k r : ℕ}
     → Surveying fs ss ancestors n sets outsides sumFees sumSizes k → r ≤ k → n ≤ positions
-    → (cs : List (List ℕ)) (tops : List ℕ) → Cut n cs sets tops r → Surveyed fs ss n (λ t. mem (setAt ancestors t)) cs outsides sumFees sumSizes r
+    → (cs : List (List ℕ)) (tops : List ℕ) → Cut n cs sets tops r → Surveyed fs ss n (memAt ancestors) cs outsides sumFees sumSizes r
 unfolding needed chunkRate
 survey-done {fs} {ss} {ancestors} {n} {sets} {k = k} h l few cs tops c =
     record {

@@ -3,8 +3,8 @@
 -- that a is an ancestor of i, and `order` is what is cut into chunks. Assumes nothing.
 use Prim.Native.Nat.{ℕ, _≤_, _<_}
 use native.Mathlib.Omega.{arith}
-use mathlib.Core.Path.{_≡_, ap}
-use mathlib.Core.Bool.{Bool, true, false, not}
+use mathlib.Core.Path.{_≡_}
+use mathlib.Core.Bool.{Bool, true, false}
 use mathlib.Core.List.{List, [], _∷_, _++_, map}
 use lib.IntN.{ℤ}
 use lib.ListN.{length, length-map}
@@ -14,13 +14,13 @@ use Rattle.lists.specs.Lists.{elem, distinct}
 use Rattle.feeset.specs.Scan.{best, ranksAbove}
 use Rattle.chunking.specs.Chunks.{chunkLengths}
 use Rattle.chunking.proofs.Theorems.{lengths-sum}
-use Rattle.lists.proofs.Lists.{After}
-use Rattle.candidates.proofs.Kept.{Once, once-none, once-more, after-none}
+use Rattle.lists.proofs.Lists.{After, after-none}
+use Rattle.lists.proofs.Once.{Once, once-none, once-more, all-there, once-missing}
 use Rattle.chunking.specs.Orders.{chunksOf, chunkAt}
 use Rattle.output_order.specs.Output.{chunkReady, memberReady, nextChunk, outputOrder}
 use Rattle.chunking.proofs.Orders.{length-cut}
 use Rattle.output_order.proofs.Kept.{mayCome, Ready, keeps-out, after-ready}
-use Rattle.output_order.proofs.Progress.{Parts, cut-stands, cut-covers, count-none, first-member, first-chunk, next-member}
+use Rattle.output_order.proofs.Progress.{Parts, cut-stands, cut-covers, first-member, first-chunk, next-member}
 use Rattle.output_order.proofs.Progress.{stage, stage-out, sound, found, all-out}
 
 module _ (fs : List ℤ) (ss : List ℕ) (anc : ℕ → ℕ → Bool) (order : List ℕ) where
@@ -109,4 +109,5 @@ module _ (fs : List ℤ) (ss : List ℕ) (anc : ℕ → ℕ → Bool) (order : L
       -- there are as many elements as members
       pub out-length : length (outputOrder fs ss anc order) ≡ length fs
       out-length =
-          omega (arith, taken .sum, count-none (λ i. not (elem i (outputOrder fs ss anc order))) (length fs) (λ i l. ap not (out-every i l)))
+          let out = outputOrder fs ss anc order in
+          omega (arith, once-missing (length fs) out taken, all-there (length fs) out out-every)

@@ -8,8 +8,8 @@ use lib.Dec.{eqb, ltb}
 use lib.IntN.{ℤ}
 use Rattle.feefrac.specs.Rate.{rankOrder, sizeOrder, thenBy, isGreater, rateAt}
 use Rattle.txset.specs.declared.TxSet.{TxSet}
-use Rattle.lists.specs.Below.{keepIf, allFrom}
-use Rattle.lists.specs.Lists.{elem}
+use Rattle.lists.specs.Below.{allFrom}
+use Rattle.lists.specs.Lists.{elem, only}
 use Rattle.txset.specs.Sets.{positions, mem, members, size, isSubset, setAt}
 use Rattle.feeset.specs.Scan.{best, ranksAbove}
 use Rattle.output_order.specs.declared.Choice.{Choice}
@@ -24,11 +24,6 @@ chosen Nothing = []
 -- what a scan holds as a list of one or none: 64 is nothing
 abbrev pub heldOf : ℕ → List ℕ
 heldOf held = cond (eqb held positions) [] (held ∷ [])
-
--- the elements that have it
-unfoldable pub only : (ℕ → Bool) → List ℕ → List ℕ
-only ready [] = []
-only ready (x ∷ xs) = keepIf (ready x) x (only ready xs)
 
 -- chunk j goes before chunk k, by their sums and their highest positions
 unfoldable pub sumAbove : List ℤ → List ℕ → List ℕ → ℕ → ℕ → Bool

@@ -5,7 +5,7 @@ ghost use mathlib.Core.List.{List};
 ghost use Prim.Native.Nat.{ℕ, _≤_, _<_};
 ghost use lib.ListN.{length};
 ghost use Rattle.lists.specs.Lists.{anyOf, elem, highestOf};
-ghost use Rattle.txset.specs.Sets.{positions, isPosition, mem, members, setAt};
+ghost use Rattle.txset.specs.Sets.{positions, isPosition, mem, members, setAt, memAt};
 ghost use Rattle.chunking.specs.Orders.{chunksOf};
 ghost use Rattle.output_order.specs.Output.{written, filled};
 ghost use Rattle.output_order.specs.Steps.{All, Cut, Surveyed};
@@ -40,8 +40,8 @@ pub fn output_order(
     order: &[usize],
     room: &mut [usize],
 ) -> usize
-    ensures { λ r. ⌜ r ≡ written (now (fees .entry)) (now (sizes .entry)) (λ i. mem (setAt (now (ancestors .entry)) i)) (now (order .entry)) (now (room .entry)) ⌝ }
-    ensures { λ _. ⌜ now (room .exit) ≡ filled (now (fees .entry)) (now (sizes .entry)) (λ i. mem (setAt (now (ancestors .entry)) i)) (now (order .entry)) (now (room .entry)) ⌝ }
+    ensures { λ r. ⌜ r ≡ written (now (fees .entry)) (now (sizes .entry)) (memAt (now (ancestors .entry))) (now (order .entry)) (now (room .entry)) ⌝ }
+    ensures { λ _. ⌜ now (room .exit) ≡ filled (now (fees .entry)) (now (sizes .entry)) (memAt (now (ancestors .entry))) (now (order .entry)) (now (room .entry)) ⌝ }
 {
     let n = fees.len();
     if POSITIONS < n {
@@ -170,7 +170,7 @@ fn survey(
     requires { ⌜ All (length (now fees)) all ⌝ }
     requires { ⌜ count ≤ positions ⌝ }
     requires { ⌜ (length (now outsides) ≡ positions) × ((length (now «sum_fees») ≡ positions) × (length (now «sum_sizes») ≡ positions)) ⌝ }
-    ensures { λ _. ⌜ ((cs : List (List ℕ)) (tops : List ℕ) → Cut (length (now (fees .entry))) cs (now (sets .entry)) tops count → Surveyed (now (fees .entry)) (now (sizes .entry)) (length (now (fees .entry))) (λ t. mem (setAt (now (ancestors .entry)) t)) cs (now (outsides .exit)) (now («sum_fees» .exit)) (now («sum_sizes» .exit)) count) ⌝ }
+    ensures { λ _. ⌜ ((cs : List (List ℕ)) (tops : List ℕ) → Cut (length (now (fees .entry))) cs (now (sets .entry)) tops count → Surveyed (now (fees .entry)) (now (sizes .entry)) (length (now (fees .entry))) (memAt (now (ancestors .entry))) cs (now (outsides .exit)) (now («sum_fees» .exit)) (now («sum_sizes» .exit)) count) ⌝ }
 {
     let mut k: usize = 0;
     while k < count {
@@ -252,7 +252,7 @@ fn put_out(
     requires { ⌜ All (length (now fees)) all ⌝ }
     requires { ⌜ ((i : ℕ) → mem chunk i ≡ true → i < length (now fees)) ⌝ }
     requires { ⌜ Standing (length (now fees)) (before .done) (before .len) (now room) ⌝ }
-    ensures { λ r. ⌜ Put (now (fees .entry)) (now (sizes .entry)) (length (now (fees .entry))) (λ i. mem (setAt (now (ancestors .entry)) i)) chunk (before .done) (before .len) (now (room .entry)) (r .done) (r .len) (now (room .exit)) ⌝ }
+    ensures { λ r. ⌜ Put (now (fees .entry)) (now (sizes .entry)) (length (now (fees .entry))) (memAt (now (ancestors .entry))) chunk (before .done) (before .len) (now (room .entry)) (r .done) (r .len) (now (room .exit)) ⌝ }
 {
     let mut done = before.done;
     let mut len = before.len;

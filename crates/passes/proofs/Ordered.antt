@@ -1,6 +1,6 @@
 -- A pass keeps a topological order topological: where no element depends on one behind it, none does afterwards. Assumes nothing.
 use mathlib.Core.Path.{_≡_, refl, sym, ap, fun-ext, _∙_}
-use mathlib.Core.Bool.{Bool, true, false, not, _&&_, _||_, or-false, or-true, or-assoc, or-comm, and-true, and-comm, and-eq-true-iff}
+use mathlib.Core.Bool.{Bool, true, false, not, _&&_, _||_, or-false, or-assoc, or-comm, and-true, and-comm, and-eq-true-iff}
 use mathlib.Core.List.{List, [], _∷_, _++_, append-nil, append-assoc, reverse, reverse-cons}
 use Prim.Native.Nat.{ℕ, _<_}
 use lib.Dec.{eqb}
@@ -8,9 +8,9 @@ use lib.IntN.{ℤ}
 use borrow.Author.Tests.{not-true, eqb-true}
 use Rattle.feefrac.specs.declared.FeeFrac.{FeeFrac}
 use Rattle.feefrac.specs.Rate.{higher, negated, rateAt}
-use Rattle.lists.proofs.Bools.{cond-where, clash, or-left, or-right}
+use Rattle.lists.proofs.Bools.{cond-where, clash, or-left}
 use Rattle.lists.specs.Lists.{anyOf, elem, distinct}
-use Rattle.lists.proofs.Lists.{any-append, elem-append, elem-left, elem-head, elem-tail, After, any-none, none-any}
+use Rattle.lists.proofs.Lists.{any-append, elem-append, elem-left, elem-head, elem-tail, After, any-none, none-any, distinct-apart, elem-right}
 use Rattle.passes.specs.Pass.{Group, absorb, dependsOn, settle, alone, groupsAfter, flat, onePass, backPass, forwardPass}
 
 -- no element depends on one behind it; that one depends on itself is not asked
@@ -156,21 +156,6 @@ unfolding ordered
 ordered-at dep xs ys i a h m =
     let b = and-eq-true-iff (not (anyOf (dep i) ys)) (ordered dep ys) .0 (ordered-parts xs (i ∷ ys) h .back) in
     any-none (dep i) ys (not-true _ (b .0)) a m
-
-elem-right : (i : ℕ) (xs ys : List ℕ) → elem i ys ≡ true → elem i (xs ++ ys) ≡ true
-elem-right i xs ys m = elem-append i xs ys ∙ rw m (or-true (elem i xs))
-
--- what is in one list is not in the other, where none comes twice
-distinct-apart : (xs ys : List ℕ) (i : ℕ) → distinct (xs ++ ys) ≡ true → elem i xs ≡ true → elem i ys ≡ false
-unfolding distinct elem anyOf
-distinct-apart [] ys i d e = clash e refl
-distinct-apart (x ∷ xs) ys i d e =
-    let b = and-eq-true-iff (not (elem x (xs ++ ys))) (distinct (xs ++ ys)) .0 d in
-    go (eqb i x) refl e (or-right (elem x xs) (elem x ys) (sym (elem-append x xs ys) ∙ not-true _ (b .0))) (distinct-apart xs ys i (b .1))
-  where
-    go : (b : Bool) → eqb i x ≡ b → (b || elem i xs) ≡ true → elem x ys ≡ false → (elem i xs ≡ true → elem i ys ≡ false) → elem i ys ≡ false
-    go true q e n h = ap (λ (j : ℕ). elem j ys) (eqb-true i x q) ∙ n
-    go false q e n h = h e
 
 module _ (n : ℕ) (dep : ℕ → ℕ → Bool) (l : List ℕ) where
   -- a list of numbers below n, none of them twice: one behind an element is not in front of it

@@ -10,11 +10,11 @@ use lib.Seq.{length-take-le, take-all, take-at, drop-at, take-suc, drop-cons, ge
 use borrow.Rule.Slice.PartMut.{midOf, putMid}
 use Rattle.feefrac.specs.declared.FeeFrac.{FeeFrac}
 use Rattle.feefrac.specs.Rate.{higher}
-use Rattle.txset.specs.Sets.{overlap}
+use Rattle.txset.specs.Sets.{overlap, memAt}
 use Rattle.passes.specs.declared.pass.Group.{Group as Summary}
 use Rattle.passes.specs.Summary.{Joined}
 use Rattle.passes.specs.Pass.{Group, absorb, dependsOn, settle, alone, groupsAfter, flat, onePass}
-use Rattle.passes.proofs.Groups.{onOf, Stands, joined-stands, overlap-depends, Stack, none, more, Near, Far, stack-kept, stack-push}
+use Rattle.passes.proofs.Groups.{Stands, joined-stands, overlap-depends, Stack, none, more, Near, Far, stack-kept, stack-push}
 use Rattle.passes.proofs.Turns.{mid-at, put-at, length-rotated}
 
 -- ---- lists of groups
@@ -59,7 +59,7 @@ pub record Held (ws : List ℕ) (gs : List Group) (rest order : List ℕ) (group
 
 -- the first k members have made their groups
 pub record Outer (rate : ℕ → FeeFrac) (ws order₀ order : List ℕ) (groups : List Summary) (count k : ℕ) : Type 0 where
-  pub held : Held ws (groupsAfter rate (onOf ws) [] (take k order₀)) (drop k order₀) order groups count k
+  pub held : Held ws (groupsAfter rate (memAt ws) [] (take k order₀)) (drop k order₀) order groups count k
   pub within : k ≤ length order₀
   pub same : length order ≡ length order₀
   pub small : length order ≤ 64
@@ -85,7 +85,7 @@ pub record State (ws : List ℕ) (goal : List Group) (rest order : List ℕ) (gr
   pub start : from ≡ length (flat bs)
   pub few : ahead ≤ length (behind os)
   pub lies : order ≡ flat bs ++ ((take ahead (behind os) ++ g .txs) ++ (drop ahead (behind os) ++ rest))
-  pub comes : reverseAux os (settle (onOf ws) g bs) ≡ goal
+  pub comes : reverseAux os (settle (memAt ws) g bs) ≡ goal
 
 -- the same of some groups
 pub record Scan (ws : List ℕ) (goal : List Group) (rest order : List ℕ) (groups : List Summary) (cur : Summary)
@@ -113,7 +113,7 @@ pub record Rest (ws : List ℕ) (goal : List Group) (rest order : List ℕ) (gro
   pub os : List Group
   pub g : Group
   pub state : State ws goal rest order groups cur below from ahead over bs os g
-  pub settled : settle (onOf ws) g bs ≡ g ∷ bs
+  pub settled : settle (memAt ws) g bs ≡ g ∷ bs
 
 -- how far the numbers of a scan go
 pub record Room (order : List ℕ) (cur : Summary) (below from ahead over : ℕ) : Type 0 where
@@ -128,11 +128,11 @@ pub record Inner (rate : ℕ → FeeFrac) (ws order₀ : List ℕ) (groups₀ : 
   pub long : length groups ≡ 64
   pub room : Room order cur below from ahead over
   pub scan : (gs : List Group) (rest : List ℕ) → Held ws gs (t ∷ rest) order₀ groups₀ count k
-      → Scan ws (settle (onOf ws) (alone rate t) gs) rest order groups cur below from ahead over
+      → Scan ws (settle (memAt ws) (alone rate t) gs) rest order groups cur below from ahead over
 
 pub scan-start : {ws : List ℕ} {gs : List Group} {t : ℕ} {rest order : List ℕ} {groups : List Summary} {count k : ℕ} {cur : Summary}
     (rate : ℕ → FeeFrac) → Held ws gs (t ∷ rest) order groups count k → Stands ws cur (alone rate t)
-    → Scan ws (settle (onOf ws) (alone rate t) gs) rest order groups cur count k 0 0
+    → Scan ws (settle (memAt ws) (alone rate t) gs) rest order groups cur count k 0 0
 unfolding behind
 scan-start {gs = gs} {t = t} rate v a =
     record {
@@ -221,7 +221,7 @@ module _ {ws : List ℕ} {goal : List Group} {rest order : List ℕ} {groups : L
   unfolding settle
   rest-empty v e = record { bs = v .bs; os = v .os; g = v .g; state = v .state; settled = go (v .bs) (omega (arith, v .state .low)) }
     where
-      go : (bs : List Group) → length bs ≡ 0 → settle (onOf ws) (v .g) bs ≡ v .g ∷ bs
+      go : (bs : List Group) → length bs ≡ 0 → settle (memAt ws) (v .g) bs ≡ v .g ∷ bs
       go [] n = refl
       go (b ∷ bs) n = absurd (omega arith)
 
@@ -235,20 +235,20 @@ module _ {ws : List ℕ} {goal : List Group} {rest order : List ℕ} {groups : L
     is-above : higher (u .g .rate) (u .p .rate) ≡ higher (cur .rate) (prev .rate)
     is-above = sym (ap₂ higher (u .state .current .rate) (u .top .rate))
 
-    is-dependent : dependsOn (onOf ws) (u .g) (u .p) ≡ overlap (cur .deps) (prev .set)
+    is-dependent : dependsOn (memAt ws) (u .g) (u .p) ≡ overlap (cur .deps) (prev .set)
     is-dependent = sym (overlap-depends (u .state .current) (u .top))
 
     settle-merge : higher (cur .rate) (prev .rate) ≡ true → overlap (cur .deps) (prev .set) ≡ true
-        → settle (onOf ws) (u .g) (u .p ∷ u .bs) ≡ settle (onOf ws) (absorb (u .p) (u .g)) (u .bs)
+        → settle (memAt ws) (u .g) (u .p ∷ u .bs) ≡ settle (memAt ws) (absorb (u .p) (u .g)) (u .bs)
     unfolding settle
     settle-merge h d = rw (is-above ∙ h, is-dependent ∙ d)
 
     settle-step : higher (cur .rate) (prev .rate) ≡ true → overlap (cur .deps) (prev .set) ≡ false
-        → settle (onOf ws) (u .g) (u .p ∷ u .bs) ≡ u .p ∷ settle (onOf ws) (u .g) (u .bs)
+        → settle (memAt ws) (u .g) (u .p ∷ u .bs) ≡ u .p ∷ settle (memAt ws) (u .g) (u .bs)
     unfolding settle
     settle-step h d = rw (is-above ∙ h, is-dependent ∙ d)
 
-    settle-stop : higher (cur .rate) (prev .rate) ≡ false → settle (onOf ws) (u .g) (u .p ∷ u .bs) ≡ u .g ∷ u .p ∷ u .bs
+    settle-stop : higher (cur .rate) (prev .rate) ≡ false → settle (memAt ws) (u .g) (u .p ∷ u .bs) ≡ u .g ∷ u .p ∷ u .bs
     unfolding settle
     settle-stop h = rw (is-above ∙ h)
 
@@ -392,7 +392,7 @@ back-done {ws} {goal} {groups} {count} {over} v h = go (v .os) (omega (arith, v 
 module _ {rate : ℕ → FeeFrac} {ws order₀ order : List ℕ} {groups : List Summary} {count k : ℕ}
     (v : Outer rate ws order₀ order groups count k) (h : k < length order₀) where
   abbrev gs : List Group
-  gs = groupsAfter rate (onOf ws) [] (take k order₀)
+  gs = groupsAfter rate (memAt ws) [] (take k order₀)
 
   next-is : getD order k 0 ≡ getD order₀ k 0
   next-is =
@@ -409,12 +409,12 @@ module _ {rate : ℕ → FeeFrac} {ws order₀ order : List ℕ} {groups : List 
       }
 
   pub outer-again : {order′ : List ℕ} {groups′ : List Summary} {count′ : ℕ}
-      → (Near ws groups′ (settle (onOf ws) (alone rate (getD order k 0)) gs)) × (count′ ≡ length (settle (onOf ws) (alone rate (getD order k 0)) gs))
-      → order′ ≡ flat (settle (onOf ws) (alone rate (getD order k 0)) gs) ++ drop (k + 1) order₀
+      → (Near ws groups′ (settle (memAt ws) (alone rate (getD order k 0)) gs)) × (count′ ≡ length (settle (memAt ws) (alone rate (getD order k 0)) gs))
+      → order′ ≡ flat (settle (memAt ws) (alone rate (getD order k 0)) gs) ++ drop (k + 1) order₀
       → length order′ ≡ length order → length groups′ ≡ 64 → Outer rate ws order₀ order′ groups′ count′ (k + 1)
   outer-again {order′} {groups′} {count′} b e same long =
-      let goal = settle (onOf ws) (alone rate (getD order k 0)) gs in
-      let is : groupsAfter rate (onOf ws) [] (take (k + 1) order₀) ≡ goal =
+      let goal = settle (memAt ws) (alone rate (getD order k 0)) gs in
+      let is : groupsAfter rate (memAt ws) [] (take (k + 1) order₀) ≡ goal =
       rw (add-one, take-suc order₀ k 0 h, after-snoc, next-is)
       in
       record {
@@ -432,12 +432,12 @@ module _ {rate : ℕ → FeeFrac} {ws order₀ order : List ℕ} {groups : List 
 
 -- all members are in their groups
 pub outer-done : {rate : ℕ → FeeFrac} {ws order₀ order : List ℕ} {groups : List Summary} {count k : ℕ}
-    → Outer rate ws order₀ order groups count k → length order₀ ≤ k → order ≡ onePass rate (onOf ws) order₀
+    → Outer rate ws order₀ order groups count k → length order₀ ≤ k → order ≡ onePass rate (memAt ws) order₀
 unfolding onePass
 outer-done {rate} {ws} {order₀} {k = k} v h =
     v .held .lies
-    ∙ ap₂ (λ (l m : List ℕ). flat (groupsAfter rate (onOf ws) [] l) ++ m) (take-all k order₀ h) (drop-of-length-le order₀ h)
-    ∙ append-nil (flat (groupsAfter rate (onOf ws) [] order₀))
+    ∙ ap₂ (λ (l m : List ℕ). flat (groupsAfter rate (memAt ws) [] l) ++ m) (take-all k order₀ h) (drop-of-length-le order₀ h)
+    ∙ append-nil (flat (groupsAfter rate (memAt ws) [] order₀))
 
 module _ {rate : ℕ → FeeFrac} {ws order₀ order : List ℕ} {groups : List Summary} {count k : ℕ} where
   -- the member is a group of its own, on top of the others
@@ -501,19 +501,19 @@ module _ {rate : ℕ → FeeFrac} {ws order₀ : List ℕ} {groups₀ : List Sum
     {below from ahead over at : ℕ} {gs : List Group} {rest : List ℕ}
     (v : Inner rate ws order₀ groups₀ count k t order groups cur below from ahead over) (held : Held ws gs (t ∷ rest) order₀ groups₀ count k)
     (stop : Stopped groups cur below at) where
-  inner-rest : Rest ws (settle (onOf ws) (alone rate t) gs) rest order groups cur below from ahead over
+  inner-rest : Rest ws (settle (memAt ws) (alone rate t) gs) rest order groups cur below from ahead over
   inner-rest = go stop
     where
-      go : {at : ℕ} → Stopped groups cur below at → Rest ws (settle (onOf ws) (alone rate t) gs) rest order groups cur below from ahead over
+      go : {at : ℕ} → Stopped groups cur below at → Rest ws (settle (memAt ws) (alone rate t) gs) rest order groups cur below from ahead over
       go (at-bottom e) = rest-empty (v .scan gs rest held) e
       go (at-top d h e) = rest-top (uncover d (v .scan gs rest held) h) e
 
-  pub inner-placed : Back ws (settle (onOf ws) (alone rate t) gs) (set groups at cur) (at + 1) over
+  pub inner-placed : Back ws (settle (memAt ws) (alone rate t) gs) (set groups at cur) (at + 1) over
   inner-placed = rw (stopped-at stop) (placed inner-rest (v .long) (omega (arith, v .room .few, v .small)))
 
   pub inner-lies : {end : ℕ} {new : List ℕ} → end ≡ from + ahead + cur .len
       → new ≡ drop ahead (midOf from (end - from) order) ++ take ahead (midOf from (end - from) order)
-      → putMid from (end - from) order new ≡ flat (settle (onOf ws) (alone rate t) gs) ++ rest
+      → putMid from (end - from) order new ≡ flat (settle (memAt ws) (alone rate t) gs) ++ rest
   inner-lies e n = placed-lies inner-rest e n
 
   pub inner-same : {end : ℕ} {new : List ℕ} → end ≡ from + ahead + cur .len

@@ -9,10 +9,10 @@ use native.Mathlib.Omega.{arith}
 use lib.Dec.{eqb}
 use lib.IntN.{ℤ, pos, negℤ, natAbs, _+ℤ_, +ℤ-idr, +ℤ-comm}
 use lib.ListN.{length, getD, length-append, length-reverse}
-use borrow.Author.Tests.{eq-eqb, eqb-true}
+use borrow.Author.Tests.{eq-eqb, eqb-true, not-true}
 use Rattle.feefrac.specs.declared.FeeFrac.{FeeFrac}
 use Rattle.feefrac.specs.Rate.{heldSize, sum, higher, negated, rateAt}
-use Rattle.lists.proofs.Bools.{cond-where, clash, false-together}
+use Rattle.lists.proofs.Bools.{cond-where, clash, false-together, and-left, and-right}
 use Rattle.feefrac.proofs.Exact.{abs-neg, held-near, sum-exact, exactSum, exact-append, spread, spread-append, abs-exact, sumOf, sumOf-append, feeLimit, Within, within-at}
 use Rattle.lists.specs.Below.{bit}
 use Rattle.lists.specs.Lists.{elem, anyOf, distinct}
@@ -77,21 +77,13 @@ never i (x ∷ xs) e = go (eqb i x) e (never i xs)
     go true e h = absurd (omega arith)
     go false e h = h (omega arith)
 
-and-left : (a b : Bool) → (not a && b) ≡ true → a ≡ false
-and-left true b e = clash e refl
-and-left false b e = refl
-
-and-right : (a b : Bool) → (not a && b) ≡ true → b ≡ true
-and-right true b e = clash e refl
-and-right false b e = e
-
 distinct-once : (xs : List ℕ) → distinct xs ≡ true → (i : ℕ) → occurs i xs ≤ 1
 unfolding distinct occurs
 distinct-once [] e i = omega arith
-distinct-once (x ∷ xs) e i = go (eqb i x) refl (distinct-once xs (and-right (elem x xs) (distinct xs) e) i)
+distinct-once (x ∷ xs) e i = go (eqb i x) refl (distinct-once xs (and-right (not (elem x xs)) (distinct xs) e) i)
   where
     go : (b : Bool) → eqb i x ≡ b → occurs i xs ≤ 1 → bit b + occurs i xs ≤ 1
-    go true d h = omega (arith, ap (λ (j : ℕ). occurs j xs) (eqb-true i x d), absent x xs (and-left (elem x xs) (distinct xs) e))
+    go true d h = omega (arith, ap (λ (j : ℕ). occurs j xs) (eqb-true i x d), absent x xs (not-true (elem x xs) (and-left (not (elem x xs)) (distinct xs) e)))
     go false d h = omega arith
 
 once-distinct : (xs : List ℕ) → ((i : ℕ) → occurs i xs ≤ 1) → distinct xs ≡ true

@@ -7,7 +7,7 @@ ghost use Prim.Native.Nat.{_+_, _<_};
 ghost use lib.ListN.{length};
 ghost use lib.Dec.{leb};
 ghost use mathlib.Core.Bool.{cond};
-ghost use Rattle.txset.specs.Sets.{mem, setAt};
+ghost use Rattle.txset.specs.Sets.{memAt};
 ghost use Rattle.passes.specs.Pass.{onePass};
 ghost use Rattle.passes.specs.Turned.{turned};
 ghost use Rattle.passes.specs.Summary.{Single, Joined};
@@ -74,7 +74,7 @@ fn feerate(fees: &[i64], sizes: &[u64], back: bool, t: usize) -> FeeFrac
 
 // A list of more than 64 stays as it is.
 pub fn one_pass(fees: &[i64], sizes: &[u64], deps: &[u64], back: bool, order: &mut [usize])
-    ensures { λ _. ⌜ now (order .exit) ≡ cond (leb (length (now (order .entry))) 64) (onePass (turned back (now (fees .entry)) (now (sizes .entry))) (λ t. mem (setAt (now (deps .entry)) t)) (now (order .entry))) (now (order .entry)) ⌝ }
+    ensures { λ _. ⌜ now (order .exit) ≡ cond (leb (length (now (order .entry))) 64) (onePass (turned back (now (fees .entry)) (now (sizes .entry))) (memAt (now (deps .entry))) (now (order .entry))) (now (order .entry)) ⌝ }
 {
     let n = order.len();
     if 64 < n {

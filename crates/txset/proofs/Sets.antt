@@ -1,21 +1,23 @@
 -- Laws of specs/Sets.antt: sets by their members, and lists of sets. Assumes nothing.
 use mathlib.Core.Path.{_≡_, refl, sym, ap, _∙_}
-use mathlib.Core.Bool.{Bool, true, false, not, _&&_, _||_, Bool·not-not}
+use mathlib.Core.Bool.{Bool, true, false, not, _&&_, _||_, and-true, and-false, or-false, or-true, Bool·not-not}
 use mathlib.Core.Logic.{_≢_, ⊎-elim}
 use mathlib.Core.List.{List}
 use Prim.Native.Nat.{ℕ, zero, suc, _^_, _≤_, _<_}
-use lib.Dec.{lit<, eqb}
+use lib.Dec.{lit<, eqb, ltb}
 use lib.ListN.{length, getD, replicate, length-set, length-replicate, getD-replicate, List·getD-eq-default}
 use lib.Seq.{getD-set-same, getD-set-other}
 use native.Mathlib.Omega.{arith}
-use borrow.Author.Tests.{lt-ltb, not-true}
+use borrow.Author.Tests.{lt-ltb, ltb-true, eq-eqb, eqb-true, not-true}
 use Rattle.txset.specs.declared.TxSet.{TxSet}
 use Rattle.lists.specs.Lists.{elem}
 use Rattle.lists.specs.Below.{anyFrom}
 use Rattle.txset.specs.Sets.{words, positions, isPosition, mem, members, size, isEmpty, isSubset, overlap, setAt, putAt}
-use Rattle.lists.proofs.Bools.{clash, but-not}
+use Rattle.lists.proofs.Bools.{clash, but-not, implies, asked}
 use Rattle.lists.proofs.Below.{all-any, any-ext, none-at, at-none, all-at, at-all, list-ext, count-list, elem-in, elem-out, ascending, list-ascending, count-without}
 use Rattle.lists.proofs.Numbers.{lt-or-ge}
+use Rattle.lists.proofs.Ranges.{count-below, count-le}
+use Rattle.lists.proofs.Once.{count-in}
 use Rattle.txset.proofs.Words.{Fits, hasIn-past, hasIn-zeros}
 
 -- a set's words are those of a machine
@@ -38,6 +40,14 @@ mem-without s i b = go (mem s i) refl
     go : (m : Bool) → mem s i ≡ m → (m && not (isPosition i && b)) ≡ (m && not b)
     go true e = ap (λ (p : Bool). not (p && b)) (lt-ltb i positions (mem-position s i e))
     go false e = refl
+
+-- what holds of positions alone need not ask either
+pub position-and : (i : ℕ) (b : Bool) → (b ≡ true → i < positions) → (isPosition i && b) ≡ b
+position-and i b h = asked (isPosition i) b (λ e. lt-ltb i positions (h e))
+
+-- the full set of n
+pub full-mem : (n : ℕ) (s : TxSet) → n ≤ positions → ((i : ℕ) → mem s i ≡ (isPosition i && ltb i n)) → (i : ℕ) → mem s i ≡ ltb i n
+full-mem n s h full i = full i ∙ position-and i (ltb i n) (λ e. omega (arith, ltb-true i n e))
 
 -- s is within t exactly if what is left of s without t is empty
 pub subset-empty : (s t d : TxSet) → ((i : ℕ) → mem d i ≡ (mem s i && not (mem t i))) → isEmpty d ≡ isSubset s t
@@ -72,11 +82,7 @@ subset-mem s t h i m =
 
 pub mem-subset : (s t : TxSet) → ((i : ℕ) → mem s i ≡ true → mem t i ≡ true) → isSubset s t ≡ true
 unfolding isSubset
-mem-subset s t h = at-all (λ i. not (mem s i) || mem t i) positions 0 (λ i a b. go (mem s i) (mem t i) (h i))
-  where
-    go : (b c : Bool) → (b ≡ true → c ≡ true) → (not b || c) ≡ true
-    go true c e = e refl
-    go false c e = refl
+mem-subset s t h = at-all (λ i. not (mem s i) || mem t i) positions 0 (λ i a b. implies (mem s i) (mem t i) (h i))
 
 -- no overlap: no member of s is one of t
 pub disjoint-mem : (s t : TxSet) → overlap s t ≡ false → (i : ℕ) → mem s i ≡ true → mem t i ≡ false
@@ -111,6 +117,30 @@ size-ext s t h = size-members s ∙ ap length (members-ext s t h) ∙ sym (size-
 pub size-without : (s u : TxSet) (t : ℕ) → mem s t ≡ true → ((i : ℕ) → mem u i ≡ (mem s i && not (eqb i t))) → size s ≡ suc (size u)
 unfolding size
 size-without s u t h w = count-without (mem s) (mem u) positions 0 t (omega arith) (mem-position s t h) h (λ i a b. w i)
+
+-- a set of positions below n has at most n members
+pub size-most : (s : TxSet) (n : ℕ) → n ≤ positions → ((i : ℕ) → mem s i ≡ true → i < n) → size s ≤ n
+unfolding size
+size-most s n h below =
+    omega (
+      arith,
+      count-below (mem s) (mem s) n positions h (λ i. sym (asked (ltb i n) (mem s i) (λ e. lt-ltb i n (below i e)))),
+      count-le (mem s) n 0,
+    )
+
+-- one member more
+pub size-more : (s t : TxSet) (x : ℕ) → mem s x ≡ false → ((i : ℕ) → mem t i ≡ (mem s i || eqb i x)) → size t ≡ suc (size s)
+size-more s t x e h =
+    size-without t s x (h x ∙ ap (λ (b : Bool). mem s x || b) (eq-eqb x x refl) ∙ or-true (mem s x)) (λ i. back i (eqb i x) refl)
+  where
+    back : (i : ℕ) (b : Bool) → eqb i x ≡ b → mem s i ≡ (mem t i && not b)
+    back i true q = ap (mem s) (eqb-true i x q) ∙ e ∙ sym (and-false (mem t i))
+    back i false q = sym (and-true (mem t i) ∙ h i ∙ ap (λ (b : Bool). mem s i || b) q ∙ or-false (mem s i))
+
+-- one that is within a list has no more members than that has elements
+pub size-in : (s : TxSet) (c : List ℕ) → ((i : ℕ) → mem s i ≡ true → elem i c ≡ true) → size s ≤ length c
+unfolding size
+size-in s c h = count-in c (mem s) positions h
 
 -- the list has the members, each above the one before it
 pub members-elem : (s : TxSet) (i : ℕ) → elem i (members s) ≡ mem s i

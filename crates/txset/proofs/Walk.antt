@@ -1,5 +1,5 @@
 -- A walk over the members of a set, upwards: t is s without its lowest member, as `without_lowest` gives it. Assumes nothing.
-use mathlib.Core.Path.{_≡_, ap}
+use mathlib.Core.Path.{_≡_, ap, _∙_}
 use mathlib.Core.Bool.{true, false, not, _&&_}
 use mathlib.Core.List.{[], _∷_}
 use Prim.Native.Nat.{ℕ, _<_}
@@ -30,6 +30,9 @@ lowest-first s i l = first-is (mem s) positions 0 .before i (omega arith) l
 pub walk-done : (s : TxSet) → isEmpty s ≡ true → members s ≡ []
 unfolding isEmpty members
 walk-done s h = list-nil (mem s) positions 0 (not-true (anyFrom (mem s) positions 0) h)
+
+pub size-empty : (s : TxSet) → isEmpty s ≡ true → size s ≡ 0
+size-empty s e = size-members s ∙ ap length (walk-done s e)
 
 module _ (s t : TxSet) (next : (i : ℕ) → mem t i ≡ (mem s i && not (eqb i (lowestOf s)))) (left : isEmpty s ≡ false) where
   -- the members are the lowest and those of t

@@ -2,7 +2,7 @@
 -- Membership is defined over any number of words. How many a TxSet has is said in `words` and `positions`; bounds and arrays of the
 -- crates above name 64.
 -- Assumes nothing.
-use Prim.Native.Nat.{ℕ, _*_, _/_, _%_, _^_, _<_}
+use Prim.Native.Nat.{ℕ, _/_, _%_, _^_, _<_}
 use mathlib.Core.Path.{_≡_}
 use mathlib.Core.Bool.{Bool, _&&_, _||_, not}
 use mathlib.Core.List.{List, [], _∷_}
@@ -62,6 +62,10 @@ lowestOf s = firstFrom (mem s) positions 0
 -- the i-th set of a list of sets that lie one after the other as words; past the end, the empty set
 unfoldable pub setAt : List ℕ → ℕ → TxSet
 setAt ws i = record { word = getD ws i 0 }
+
+-- whether a is in the i-th set
+abbrev pub memAt : List ℕ → ℕ → ℕ → Bool
+memAt ws i = mem (setAt ws i)
 
 -- the list with its i-th set put anew; past the end, the same list
 unfoldable pub putAt : List ℕ → ℕ → TxSet → List ℕ

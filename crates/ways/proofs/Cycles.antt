@@ -8,10 +8,10 @@ use native.Mathlib.Omega.{arith}
 use lib.Dec.{eqb}
 use borrow.Author.Tests.{eq-eqb, eqb-true}
 use Rattle.lists.specs.Below.{countFrom, firstFrom}
-use Rattle.lists.proofs.Bools.{clash, or-either}
+use Rattle.lists.proofs.Bools.{clash, or-either, is-false}
 use Rattle.lists.proofs.Below.{first-has, first-below, any-at}
 use Rattle.ways.specs.Ways.{Way, step, reach, isCyclic, Bounded}
-use Rattle.ways.proofs.Counts.{count-less}
+use Rattle.lists.proofs.Ranges.{count-less}
 use Rattle.ways.proofs.Ways.{way-trans, reach-is, is-reach, way-from}
 
 -- ---- a cycle is a number with a way to itself
@@ -70,22 +70,15 @@ module _ {r : ℕ → ℕ → Bool} {n : ℕ} (b : Bounded r n) (acyclic : isCyc
       (omega arith)
       (omega (arith, way-from b u))
       (onward-self r n i)
-      (go (onward r n a i) refl)
-    where
-      go : (c : Bool) → onward r n a i ≡ c → onward r n a i ≡ false
-      go true e = absurd (⊎-elim (λ z. no-way (rw z at u)) (λ v. no-way (way-trans u v)) (onward-either r n a i e))
-      go false e = e
+      (is-false (onward r n a i) (λ e.
+      absurd (⊎-elim (λ z. no-way (rw z at u)) (λ v. no-way (way-trans u v)) (onward-either r n a i e))))
 
   -- a set in which each has a step to another of it is empty
   pub endless : (f : ℕ → Bool) → ((i : ℕ) → f i ≡ true → (a : ℕ) × (r i a ≡ true) × (f a ≡ true)) → (i : ℕ) → f i ≡ false
-  endless f on i = go (f i) refl
+  endless f on i = is-false (f i) (λ e. absurd (none (suc (countFrom (onward r n i) n 0)) i (omega arith) e))
     where
       none : (m i : ℕ) → countFrom (onward r n i) n 0 < m → f i ≡ true → ⊥
       none zero i l h = omega arith
       none (suc m) i l h =
           let next = on i h in
           none m (next .0) (omega (arith, fewer (step (next .1)))) (next .2)
-
-      go : (c : Bool) → f i ≡ c → f i ≡ false
-      go true e = absurd (none (suc (countFrom (onward r n i) n 0)) i (omega arith) e)
-      go false e = e

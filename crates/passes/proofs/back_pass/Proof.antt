@@ -2,7 +2,7 @@ use mathlib.Core.Bool.{true}
 use borrow.Author.Needs.{needs}
 use Rattle.passes.specs.Pass.{backPass, onePass}
 use Rattle.passes.specs.Turned.{turned}
-use Rattle.passes.proofs.Groups.{onOf}
+use Rattle.txset.specs.Sets.{memAt}
 use Rattle.passes.proofs.Turns.{turned-back}
 use Rattle.passes.proofs.back_pass.Statement.{statement}
 use Rattle.passes.proofs.back_pass.Tie as tie
@@ -14,7 +14,7 @@ returns c =
     let pass = last .before .before .before .before in
     let first = pass .before .before .before .before in
     let args = first .before .before .before .before .before .args in
-    turned-back (onePass (turned true (args .fees .now) (args .sizes .now)) (onOf (args .descendants .now))) (args .order .now)
+    turned-back (onePass (turned true (args .fees .now) (args .sizes .now)) (memAt (args .descendants .now))) (args .order .now)
     (first .reverse .ensures) (pass .one-pass .ensures) (last .reverse2 .ensures)
 
 pub back-pass-spec : {M : Type 1} → statement M
