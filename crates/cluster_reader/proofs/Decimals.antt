@@ -15,7 +15,7 @@ use mir.Facts.{toZ-ofZ, toZ-pos}
 use borrow.Author.Tests.{lt-ltb, le-leb, lt-leb, eq-eqb, ne-eqb}
 use Rattle.lists.specs.Lists.{allOf}
 use Rattle.cluster_reader.specs.declared.numerals.Number.the-variants.{Value, Malformed}
-use Rattle.cluster_reader.specs.declared.numerals.Fee.the-variants.{Sats, Wrong}
+use Rattle.cluster_reader.specs.declared.numerals.Fee.the-variants as fee
 use Rattle.cluster_reader.specs.Numerals.{isDigit, valueFrom, isPlain, numberOf, negative, positive, feeOf}
 
 -- ---- what is no number
@@ -113,7 +113,7 @@ module _ {text : List ℕ} {value i : ℕ} (s : Spelt text value i) where
 
 -- ---- fees
 
-pub no-fee : (text : List ℕ) → length text ≡ 0 → feeOf text ≡ Wrong
+pub no-fee : (text : List ℕ) → length text ≡ 0 → feeOf text ≡ fee.Malformed
 unfolding feeOf
 no-fee [] e = refl
 no-fee (b ∷ bs) e = absurd (omega arith)
@@ -128,13 +128,13 @@ unfolding feeOf
 no-minus [] n e = absurd (n refl)
 no-minus (b ∷ bs) n e = rw (ne-eqb b 45 e)
 
-pub positive-large : (v : ℕ) → 9223372036854775807 < v → positive (Value v) ≡ Wrong
+pub positive-large : (v : ℕ) → 9223372036854775807 < v → positive (Value v) ≡ fee.Malformed
 positive-large v l = rw (lt-leb v 9223372036854775807 l)
 
-pub positive-fits : (v : ℕ) → v ≤ 9223372036854775807 → positive (Value v) ≡ Sats (toZ w64 v)
+pub positive-fits : (v : ℕ) → v ≤ 9223372036854775807 → positive (Value v) ≡ fee.Sats (toZ w64 v)
 positive-fits v l = rw (le-leb v 9223372036854775807 l, toZ-pos w64 {n = v} (omega arith))
 
-pub negative-large : (v : ℕ) → 9223372036854775808 < v → negative (Value v) ≡ Wrong
+pub negative-large : (v : ℕ) → 9223372036854775808 < v → negative (Value v) ≡ fee.Malformed
 negative-large v l = rw (lt-leb v 9223372036854775808 l, and-false (ltb 0 v))
 
 -- -v as code finds it, by way of v - 1, which fits where v may not
@@ -149,5 +149,5 @@ module _ (v : ℕ) (above : v ≡ 0 → ⊥) (l : v ≤ 9223372036854775808) whe
   pub turned-fits : SFits w64 (negsuc 0 -ℤ toZ w64 (v - 1))
   turned-fits = rw turned (record { sfits = omega arith })
 
-  pub negative-fits : negative (Value v) ≡ Sats (toZ w64 (ofZ w64 (negsuc 0 -ℤ toZ w64 (v - 1))))
+  pub negative-fits : negative (Value v) ≡ fee.Sats (toZ w64 (ofZ w64 (negsuc 0 -ℤ toZ w64 (v - 1))))
   negative-fits = rw (toZ-ofZ turned-fits, turned, lt-ltb 0 v (omega arith), le-leb v 9223372036854775808 l)

@@ -6,13 +6,12 @@ use Prim.Native.Nat.{ℕ, zero, suc, _+_, _*_, _≤_, _<_}
 use native.Mathlib.Omega.{arith}
 use lib.ListN.{length, drop, length-drop}
 use lib.IntN.{ℤ}
-use Rattle.cluster_reader.specs.declared.First.the-variants as count
-use Rattle.cluster_reader.specs.declared.FirstLine.{FirstLine}
+use Rattle.cluster_reader.specs.declared.Input.the-variants.{Members}
 use Rattle.cluster_reader.specs.Numerals.{numberOf, feeOf}
 use Rattle.cluster_reader.specs.Lines.{behind, longestLine, longestText, isField, valueOf}
 use Rattle.cluster_reader.specs.Reading.{feeKey, sizeKey, parentsKey, isNumber, isFee, parts, areNumbers}
-use Rattle.cluster_reader.specs.Reading.{isMember, memberFee, memberSize, memberParents, nextMember, Read, refused, members, read}
-use Rattle.cluster_reader.specs.Steps.{firstOf}
+use Rattle.cluster_reader.specs.Reading.{isMember, memberFee, memberSize, memberParents, nextMember, Read, refused, members, read, told, firstTold}
+use Rattle.cluster_reader.specs.Steps.{nextLine}
 use Rattle.lists.proofs.Bools.{and-both}
 use Rattle.cluster_reader.proofs.Places.{field-passes}
 use Rattle.cluster_reader.proofs.Reading.{read-count}
@@ -45,7 +44,7 @@ members-full (suc k) xs fs ss ps l =
     go false e f = refl
 
 -- a first line that gives a number of members, in a text that has more than those can have
-pub count-full : (text : List ℕ) (l : FirstLine) → firstOf text ≡ count.Count l → longestText < length text → read text ≡ refused 13
-count-full text l h long =
-    let c = read-count text l h in
-    c .is ∙ members-full (l .n) (drop (l .next) text) [] [] [] (omega (arith, c .few, c .near, length-drop (l .next) text))
+pub count-full : (text : List ℕ) (n : ℕ) → firstTold text ≡ told (Members n) → longestText < length text → read text ≡ refused 13
+count-full text n h long =
+    let c = read-count text n h in
+    c .is ∙ members-full n (drop (nextLine text 0) text) [] [] [] (omega (arith, c .few, c .near, length-drop (nextLine text 0) text))

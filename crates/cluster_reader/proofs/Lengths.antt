@@ -1,8 +1,9 @@
--- How long the lists of a cluster are that was read: at most 64, and the three alike. Assumes nothing.
-use mathlib.Core.Path.{_≡_, refl}
-use mathlib.Core.Bool.{_&&_}
+-- How long the lists of a cluster are that was read: at most 64, and the three alike; and that a refusal's number is not 0. Assumes
+-- nothing.
+use mathlib.Core.Path.{_≡_, refl, sym}
+use mathlib.Core.Bool.{Bool, true, false, cond, _&&_}
 use mathlib.Core.List.{List, [], _∷_, _++_}
-use Prim.Native.Nat.{ℕ, zero, suc, _+_, _≤_}
+use Prim.Native.Nat.{ℕ, zero, suc, _+_, _≤_, _<_}
 use native.Mathlib.Nat.{zero-add}
 use native.Mathlib.Omega.{arith}
 use lib.Dec.{ltb}
@@ -13,7 +14,7 @@ use Rattle.txset.specs.Sets.{positions}
 use Rattle.cluster_reader.specs.Numerals.{isNil, numberOf}
 use Rattle.cluster_reader.specs.Lines.{behind, isField, valueOf}
 use Rattle.cluster_reader.specs.Reading.{nKey, isNumber, numberIn, isMember, memberFee, memberSize, memberParents, nextMember}
-use Rattle.cluster_reader.specs.Reading.{refused, cluster, members, read}
+use Rattle.cluster_reader.specs.Reading.{Read, refused, cluster, members, read}
 use Rattle.lists.proofs.Bools.{cond-first, cond-second}
 
 -- three lists of n
@@ -63,3 +64,26 @@ read-whole text e =
       sizes = omega (arith, r .fees, r .sizes);
       parents = omega (arith, r .fees, r .parents);
     }
+
+-- members that are not of their form give 13
+members-refused : (k : ℕ) (xs : List ℕ) (fs : List ℤ) (ss ps : List ℕ) {j : ℕ} → members k xs fs ss ps ≡ refused j → j ≡ 13
+unfolding members
+members-refused zero xs fs ss ps {j} e = let z = cond-second (isNil xs) e (λ q. not-read (sym q)) .1 in cc
+members-refused (suc k) xs fs ss ps {j} e =
+    go (isMember xs) e (members-refused k (nextMember xs) (fs ++ (memberFee xs ∷ [])) (ss ++ (memberSize xs ∷ [])) (ps ++ (memberParents xs ∷ [])))
+  where
+    go : (b : Bool) {r : Read} → cond b r (refused 13) ≡ refused j → (r ≡ refused j → j ≡ 13) → j ≡ 13
+    go true q f = f q
+    go false q f = cc
+
+-- so a text is refused with 2 or 13, and never with 0
+pub read-refused : (text : List ℕ) {j : ℕ} → read text ≡ refused j → 0 < j
+unfolding read
+read-refused text {j} e =
+    let n = numberIn (numberOf (valueOf nKey text)) in
+    go (isField nKey text && isNumber (numberOf (valueOf nKey text))) (ltb positions n) e (members-refused n (behind 10 text) [] [] [])
+  where
+    go : (a b : Bool) {r : Read} → cond a (cond b (refused 2) r) (refused 13) ≡ refused j → (r ≡ refused j → j ≡ 13) → 0 < j
+    go true true q f = let z : 2 ≡ j = cc in omega arith
+    go true false q f = omega (arith, f q)
+    go false b q f = let z : 13 ≡ j = cc in omega arith

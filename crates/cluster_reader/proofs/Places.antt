@@ -251,7 +251,6 @@ before-grows b (x ∷ xs) ys h = go (eqb x b) (before-grows b xs ys) h
 pub record Same (key xs ys : List ℕ) : Type 0 where
   pub field : isField key ys ≡ isField key xs
   pub value : valueOf key ys ≡ valueOf key xs
-  pub place : placeOf 10 ys 0 ≡ placeOf 10 xs 0
 
 pub goes-on : (key xs ys : List ℕ) → length (before 10 xs) < length xs → Same key xs (xs ++ ys)
 unfolding isField isLine valueOf
@@ -261,7 +260,6 @@ goes-on key xs ys l =
       field =
           rw (e, lt-ltb (length (before 10 xs)) (length xs) l, lt-ltb (length (before 10 xs)) (length (xs ++ ys)) (omega (arith, length-append xs ys)));
       value = ap (drop (length key)) e;
-      place = ap (λ (l : List ℕ). 0 + length l) e;
     }
 
 pub too-long : (key xs ys : List ℕ) → length xs ≤ length (before 10 xs) → 1024 < length xs → isField key (xs ++ ys) ≡ false

@@ -20,9 +20,6 @@ use Rattle.cluster_reader.specs.declared.numerals.Number.the-variants as
 use Rattle.cluster_reader.specs.declared.numerals.Fee.the-variants as fee
 use Rattle.cluster_reader.specs.declared.Input.{Input}
 use Rattle.cluster_reader.specs.declared.Input.the-variants as input
-use Rattle.cluster_reader.specs.declared.First.{First}
-use Rattle.cluster_reader.specs.declared.First.the-variants as count
-use Rattle.cluster_reader.specs.declared.FirstLine.{FirstLine}
 use Rattle.cluster_reader.specs.declared.Member.the-variants as member
 use Rattle.cluster_reader.specs.declared.MemberLines.{MemberLines}
 use Rattle.cluster_reader.specs.declared.Parents.the-variants as parents
@@ -30,29 +27,30 @@ use Rattle.cluster_reader.specs.Numerals.{numberOf, feeOf}
 use Rattle.cluster_reader.specs.Lines.{before, behind, isLine, longestLine, starts, isField, valueOf}
 use Rattle.cluster_reader.specs.Reading.{nKey, feeKey, sizeKey, parentsKey, isNumber, numberIn, isFee, parts, areNumbers, wordOf}
 use Rattle.cluster_reader.specs.Reading.{isMember, memberFee, memberSize, memberParents, nextMember, Read, refused, cluster, members, read}
-use Rattle.cluster_reader.specs.Calls.{inputOf, feesAfter, sizesAfter, parentsAfter, Decided, isDecided}
-use Rattle.cluster_reader.specs.Steps.{nextLine, hasEnd, firstOf, memberAt, parentsIn}
+use Rattle.cluster_reader.specs.Reading.{Told, told, readTold, firstTold}
+use Rattle.cluster_reader.specs.Calls.{feesAfter, sizesAfter, parentsAfter, Decided, isDecided}
+use Rattle.cluster_reader.specs.Steps.{nextLine, hasEnd, memberAt, parentsIn}
 use Rattle.cluster_reader.proofs.Places.{Field, field-inside, field-short, place-behind, goes-on, too-long}
 
 -- ---- the first line
 
 module _ (text : List ℕ) where
-  pub first-no-field : isField nKey text ≡ false → firstOf text ≡ count.Malformed
-  unfolding firstOf
+  pub first-no-field : isField nKey text ≡ false → firstTold text ≡ told input.Malformed
+  unfolding firstTold
   first-no-field e = rw e
 
-  pub first-no-number : numberOf (valueOf nKey text) ≡ number.Malformed → firstOf text ≡ count.Malformed
-  unfolding firstOf
+  pub first-no-number : numberOf (valueOf nKey text) ≡ number.Malformed → firstTold text ≡ told input.Malformed
+  unfolding firstTold
   first-no-number e = rw (e, and-false (isField nKey text))
 
-  module _ {start end : ℕ} (f : Field nKey text text 0 start end) (n : ℕ) (e : numberOf (valueOf nKey text) ≡ number.Value n) where
-    pub first-many : positions < n → firstOf text ≡ count.TooMany
-    unfolding firstOf
-    first-many l = rw (f .field, e, lt-ltb positions n l)
+  module _ (f : isField nKey text ≡ true) (n : ℕ) (e : numberOf (valueOf nKey text) ≡ number.Value n) where
+    pub first-many : positions < n → firstTold text ≡ told input.TooMany
+    unfolding firstTold
+    first-many l = rw (f, e, lt-ltb positions n l)
 
-    pub first-count : n ≤ positions → firstOf text ≡ count.Count (record { n = n; next = end + 1 })
-    unfolding firstOf
-    first-count l = rw (f .field, e, le-ltb positions n l, f .at)
+    pub first-count : n ≤ positions → firstTold text ≡ told (input.Members n)
+    unfolding firstTold
+    first-count l = rw (f, e, le-ltb positions n l)
 
 -- ---- a member's three lines
 
@@ -90,7 +88,7 @@ module _ (text : List ℕ) (from : ℕ) where
   pub no-fee-line : isField feeKey feeLine ≡ false → memberAt text from ≡ member.Malformed
   no-fee-line e = not-fee (rw e)
 
-  pub no-fee : feeOf (valueOf feeKey feeLine) ≡ fee.Wrong → memberAt text from ≡ member.Malformed
+  pub no-fee : feeOf (valueOf feeKey feeLine) ≡ fee.Malformed → memberAt text from ≡ member.Malformed
   no-fee e = not-fee (rw (e, and-false (isField feeKey feeLine)))
 
   pub no-size-line : isField sizeKey sizeLine ≡ false → memberAt text from ≡ member.Malformed
@@ -240,11 +238,14 @@ module _ {n : ℕ} {text : List ℕ} {from : ℕ} {fs : List ℤ} {ss ps : List 
 -- ---- the arrays and the answer, by what was read
 
 abbrev pub Left : Read → Input → List ℤ → List ℤ → List ℕ → List ℕ → List ℕ → List ℕ → Type 0
-Left r a fs fs₀ ss ss₀ ps ps₀ = (a ≡ inputOf r) × ((fs ≡ feesAfter r fs₀) × ((ss ≡ sizesAfter r ss₀) × (ps ≡ parentsAfter r ps₀)))
+Left r a fs fs₀ ss ss₀ ps ps₀ = (told a ≡ readTold r) × ((fs ≡ feesAfter r fs₀) × ((ss ≡ sizesAfter r ss₀) × (ps ≡ parentsAfter r ps₀)))
 
 -- a refusal leaves them
-pub refused-left : {r : Read} {fs : List ℤ} {ss ps : List ℕ} {k : ℕ} → r ≡ refused k → Left r (input.Refused k) fs fs ss ss ps ps
-refused-left e = rw e (refl, (refl, (refl, refl)))
+pub malformed-left : {r : Read} {fs : List ℤ} {ss ps : List ℕ} → r ≡ refused 13 → Left r input.Malformed fs fs ss ss ps ps
+malformed-left e = rw e (refl, (refl, (refl, refl)))
+
+pub many-left : {r : Read} {fs : List ℤ} {ss ps : List ℕ} → r ≡ refused 2 → Left r input.TooMany fs fs ss ss ps ps
+many-left e = rw e (refl, (refl, (refl, refl)))
 
 -- what was read takes their start
 pub cluster-left : (fs : List ℤ) (ss ps : List ℕ) (n : ℕ) {r : Read} {gs hs : List ℤ} {ts us qs vs : List ℕ} → r ≡ cluster gs ts qs → length gs ≡ n
@@ -253,97 +254,97 @@ cluster-left fs ss ps n e l a b c = rw (e, l) (refl, (a, (b, c)))
 
 -- ---- what the first line decides
 
+-- two answers of different numbers are two
+apart : {s t : Told} → s ≡ t → s .number ≡ t .number
+apart e = ap (λ (t : Told). t .number) e
+
 module _ (text : List ℕ) where
   abbrev isFirst : Bool
   isFirst = isField nKey text && isNumber (numberOf (valueOf nKey text))
 
+  abbrev count : ℕ
+  count = numberIn (numberOf (valueOf nKey text))
+
   abbrev above : Bool
-  above = ltb positions (numberIn (numberOf (valueOf nKey text)))
+  above = ltb positions count
 
-  abbrev counted : First
-  counted = count.Count (record { n = numberIn (numberOf (valueOf nKey text)); next = nextLine text 0 })
-
-  pub read-malformed : firstOf text ≡ count.Malformed → read text ≡ refused 13
-  unfolding firstOf read
+  pub read-malformed : firstTold text ≡ told input.Malformed → read text ≡ refused 13
+  unfolding firstTold read
   read-malformed h = rw (cond-second isFirst h (go above) .0)
     where
-      go : (b : Bool) → cond b count.TooMany counted ≡ count.Malformed → ⊥
-      go true e = let z : _≡_ {A = ℕ} 0 1 = cc in omega arith
-      go false e = let z : _≡_ {A = ℕ} 0 1 = cc in omega arith
+      go : (b : Bool) → cond b (told input.TooMany) (told (input.Members count)) ≡ told input.Malformed → ⊥
+      go true e = omega (arith, apart e)
+      go false e = omega (arith, apart e)
 
   -- a first line that is of its form, with a number above 64 or not
-  record Whole (f : First) : Type 0 where
+  record Whole (t : Told) : Type 0 where
     form : isFirst ≡ true
-    says : cond above count.TooMany counted ≡ f
+    says : cond above (told input.TooMany) (told (input.Members count)) ≡ t
     ends : length (before 10 text) < length text
 
-  whole : {f : First} → firstOf text ≡ f → (count.Malformed ≡ f → ⊥) → Whole f
-  unfolding firstOf
+  whole : {t : Told} → firstTold text ≡ t → (told input.Malformed ≡ t → ⊥) → Whole t
+  unfolding firstTold
   whole h n =
       let p = cond-first isFirst h n in
       record { form = p .0; says = p .1; ends = field-inside nKey text (and-both (isField nKey text) (isNumber (numberOf (valueOf nKey text))) (p .0) .0) }
 
-  whole-many : firstOf text ≡ count.TooMany → Whole count.TooMany
-  whole-many h = whole h (λ e. let z : _≡_ {A = ℕ} 0 1 = cc in omega arith)
+  whole-many : firstTold text ≡ told input.TooMany → Whole (told input.TooMany)
+  whole-many h = whole h (λ e. omega (arith, apart e))
 
-  pub read-many : firstOf text ≡ count.TooMany → read text ≡ refused 2
+  pub read-many : firstTold text ≡ told input.TooMany → read text ≡ refused 2
   unfolding read
   read-many h =
       let w = whole-many h in
-      let b = cond-first above (w .says) (λ e. let z : _≡_ {A = ℕ} 0 1 = cc in omega arith) in
+      let b = cond-first above (w .says) (λ e. omega (arith, apart e)) in
       rw (w .form, b .0)
 
-  pub record Counted (l : FirstLine) : Type 0 where
-    pub is : read text ≡ members (l .n) (drop (l .next) text) [] [] []
-    pub few : l .n ≤ 64
-    pub inside : l .next ≤ length text
-    pub near : l .next ≤ longestLine
+  pub record Counted (n : ℕ) : Type 0 where
+    pub is : read text ≡ members n (drop (nextLine text 0) text) [] [] []
+    pub few : n ≤ 64
+    pub inside : nextLine text 0 ≤ length text
+    pub near : nextLine text 0 ≤ longestLine
     pub ends : length (before 10 text) < length text
 
-  pub read-count : (l : FirstLine) → firstOf text ≡ count.Count l → Counted l
+  pub read-count : (n : ℕ) → firstTold text ≡ told (input.Members n) → Counted n
   unfolding read
-  read-count l h =
-      let w = whole h (λ e. let z : _≡_ {A = ℕ} 0 1 = cc in omega arith) in
-      let b = cond-second above (w .says) (λ e. let z : _≡_ {A = ℕ} 0 1 = cc in omega arith) in
-      let q : record { n = numberIn (numberOf (valueOf nKey text)); next = nextLine text 0 } ≡ l = cc in
-      let n : numberIn (numberOf (valueOf nKey text)) ≡ l .n = ap (λ (t : FirstLine). t .n) q in
-      let k : nextLine text 0 ≡ l .next = ap (λ (t : FirstLine). t .next) q in
+  read-count n h =
+      let w = whole h (λ e. omega (arith, apart e)) in
+      let b = cond-second above (w .says) (λ e. omega (arith, apart e)) in
+      let same : count ≡ n = ap (λ (t : Told). t .count) (b .1) in
       record {
-        is =
-            rw (w .form, b .0, n)
-            (ap (λ (xs : List ℕ). members (l .n) xs [] [] []) (sym (ap (λ (m : ℕ). drop m text) (sym k) ∙ place-behind 10 text 0)));
-        few = omega (arith, ltb-false positions (numberIn (numberOf (valueOf nKey text))) (b .0));
+        is = rw (w .form, b .0, same) (ap (λ (xs : List ℕ). members n xs [] [] []) (sym (place-behind 10 text 0)));
+        few = omega (arith, ltb-false positions count (b .0));
         inside = omega (arith, w .ends);
         near = omega (arith, field-short nKey text (and-both (isField nKey text) (isNumber (numberOf (valueOf nKey text))) (w .form) .0));
         ends = w .ends;
       }
 
 -- the first line says the same where the text goes on
-pub first-goes-on : (start rest : List ℕ) → length (before 10 start) < length start → firstOf (start ++ rest) ≡ firstOf start
-unfolding firstOf
+pub first-goes-on : (start rest : List ℕ) → length (before 10 start) < length start → firstTold (start ++ rest) ≡ firstTold start
+unfolding firstTold
 first-goes-on start rest l =
     let s = goes-on nKey start rest l in
-    rw (s .field, s .value, s .place)
+    rw (s .field, s .value)
 
-pub many-decided : (start : List ℕ) → firstOf start ≡ count.TooMany → Decided start true
+pub many-decided : (start : List ℕ) → firstTold start ≡ told input.TooMany → Decided start true
 many-decided start h =
     λ rest. read-many (start ++ rest) (first-goes-on start rest (whole-many start h .ends) ∙ h) ∙ sym (read-many start h)
 
 -- which starts decide
 module _ (start : List ℕ) where
-  pub count-open : (l : FirstLine) → firstOf start ≡ count.Count l → false ≡ isDecided start
+  pub count-open : (n : ℕ) → firstTold start ≡ told (input.Members n) → false ≡ isDecided start
   unfolding isDecided
-  count-open l h = sym (rw h (and-false (hasEnd start)))
+  count-open n h = sym (rw h (and-false (hasEnd start)))
 
-  pub many-certain : firstOf start ≡ count.TooMany → true ≡ isDecided start
+  pub many-certain : firstTold start ≡ told input.TooMany → true ≡ isDecided start
   unfolding isDecided
   many-certain h = sym (rw (h, lt-ltb (length (before 10 start)) (length start) (whole-many start h .ends)))
 
-  pub malformed-certain : firstOf start ≡ count.Malformed → hasEnd start ≡ isDecided start
+  pub malformed-certain : firstTold start ≡ told input.Malformed → hasEnd start ≡ isDecided start
   unfolding isDecided
   malformed-certain h = sym (rw h (and-true (hasEnd start)))
 
-pub malformed-decided : (start : List ℕ) → firstOf start ≡ count.Malformed → Decided start (hasEnd start)
+pub malformed-decided : (start : List ℕ) → firstTold start ≡ told input.Malformed → Decided start (hasEnd start)
 malformed-decided start h = go (hasEnd start) refl
   where
     short : hasEnd start ≡ true → length start ≤ length (before 10 start) → 1024 < length start

@@ -4,17 +4,10 @@ use mathlib.Core.Bool.{Bool, true, false, not, _&&_}
 use mathlib.Core.List.{List, _++_}
 use Prim.Native.Nat.{ℕ}
 use lib.ListN.{length, drop}
+use lib.Dec.{eqb}
 use lib.IntN.{ℤ}
-use Rattle.cluster_reader.specs.declared.Input.{Input}
-use Rattle.cluster_reader.specs.declared.Input.the-variants.{Members, Refused}
-use Rattle.cluster_reader.specs.declared.First.{First}
-use Rattle.cluster_reader.specs.declared.First.the-variants.{Count, TooMany, Malformed}
-use Rattle.cluster_reader.specs.Steps.{hasEnd, firstOf}
-use Rattle.cluster_reader.specs.Reading.{Read, refused, cluster, read}
-
-abbrev pub inputOf : Read → Input
-inputOf (refused k) = Refused k
-inputOf (cluster fs ss ps) = Members (length fs)
+use Rattle.cluster_reader.specs.Steps.{hasEnd}
+use Rattle.cluster_reader.specs.Reading.{Read, refused, cluster, read, firstTold}
 
 abbrev pub feesAfter : Read → List ℤ → List ℤ
 feesAfter (refused k) old = old
@@ -33,12 +26,6 @@ abbrev pub Decided : List ℕ → Bool → Type 0
 Decided start true = (rest : List ℕ) → read (start ++ rest) ≡ read start
 Decided start false = Unit {0}
 
--- what the first line says is a number of members that is read on for
-abbrev pub isCount : First → Bool
-isCount (Count l) = true
-isCount TooMany = false
-isCount Malformed = false
-
--- the answer is certain exactly where the first line is whole, or longer than a line may be, and is no such number
+-- the answer is certain exactly where the first line is whole, or longer than a line may be, and gives a refusal
 unfoldable pub isDecided : List ℕ → Bool
-isDecided start = hasEnd start && not (isCount (firstOf start))
+isDecided start = hasEnd start && not (eqb (firstTold start .number) 0)

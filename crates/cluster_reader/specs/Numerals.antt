@@ -8,7 +8,7 @@ use Rattle.lists.specs.Lists.{allOf}
 use Rattle.cluster_reader.specs.declared.numerals.Number.{Number}
 use Rattle.cluster_reader.specs.declared.numerals.Number.the-variants.{Value, Malformed}
 use Rattle.cluster_reader.specs.declared.numerals.Fee.{Fee}
-use Rattle.cluster_reader.specs.declared.numerals.Fee.the-variants.{Sats, Wrong}
+use Rattle.cluster_reader.specs.declared.numerals.Fee.the-variants as fee
 
 abbrev pub isNil : {A : Type 0} → List A → Bool
 isNil [] = true
@@ -34,13 +34,13 @@ numberOf ds = cond (isPlain ds && leb (valueFrom 0 ds) 18446744073709551615) (Va
 
 -- "`-` only on a non-zero fee; fee i64"
 abbrev pub negative : Number → Fee
-negative Malformed = Wrong
-negative (Value v) = cond (ltb 0 v && leb v 9223372036854775808) (Sats (negsuc (v - 1))) Wrong
+negative Malformed = fee.Malformed
+negative (Value v) = cond (ltb 0 v && leb v 9223372036854775808) (fee.Sats (negsuc (v - 1))) fee.Malformed
 
 abbrev pub positive : Number → Fee
-positive Malformed = Wrong
-positive (Value v) = cond (leb v 9223372036854775807) (Sats (pos v)) Wrong
+positive Malformed = fee.Malformed
+positive (Value v) = cond (leb v 9223372036854775807) (fee.Sats (pos v)) fee.Malformed
 
 unfoldable pub feeOf : List ℕ → Fee
-feeOf [] = Wrong
+feeOf [] = fee.Malformed
 feeOf (b ∷ bs) = cond (eqb b 45) (negative (numberOf bs)) (positive (numberOf (b ∷ bs)))

@@ -6,12 +6,15 @@ use mathlib.Core.List.{List, [], _∷_, _++_}
 use lib.Dec.{eqb, ltb}
 use lib.Bits.{bitOr}
 use lib.IntN.{ℤ, pos}
+use lib.ListN.{length}
 use Rattle.lists.specs.Lists.{allOf}
 use Rattle.txset.specs.Sets.{positions}
 use Rattle.cluster_reader.specs.declared.numerals.Number.{Number}
 use Rattle.cluster_reader.specs.declared.numerals.Number.the-variants.{Value, Malformed}
 use Rattle.cluster_reader.specs.declared.numerals.Fee.{Fee}
-use Rattle.cluster_reader.specs.declared.numerals.Fee.the-variants.{Sats, Wrong}
+use Rattle.cluster_reader.specs.declared.numerals.Fee.the-variants as fee
+use Rattle.cluster_reader.specs.declared.Input.{Input}
+use Rattle.cluster_reader.specs.declared.Input.the-variants as input
 use Rattle.cluster_reader.specs.Numerals.{isNil, numberOf, feeOf}
 use Rattle.cluster_reader.specs.Lines.{behind, isField, valueOf}
 
@@ -38,12 +41,12 @@ numberIn (Value v) = v
 numberIn Malformed = 0
 
 abbrev pub isFee : Fee → Bool
-isFee (Sats z) = true
-isFee Wrong = false
+isFee (fee.Sats z) = true
+isFee fee.Malformed = false
 
 abbrev pub feeIn : Fee → ℤ
-feeIn (Sats z) = z
-feeIn Wrong = pos 0
+feeIn (fee.Sats z) = z
+feeIn fee.Malformed = pos 0
 
 -- a list cut at its commas (byte 44)
 unfoldable pub partsFrom : List ℕ → List ℕ → List (List ℕ)
@@ -102,3 +105,29 @@ read xs =
     cond (isField nKey xs && isNumber (numberOf (valueOf nKey xs)))
     (cond (ltb positions (numberIn (numberOf (valueOf nKey xs)))) (refused 2) (members (numberIn (numberOf (valueOf nKey xs))) (behind 10 xs) [] [] []))
     (refused 13)
+
+-- ---- the same as an answer: "Whenever an answer is an enum, a definition gives this paper's number and values for each of the enum's
+-- cases."
+
+-- the number of the answer, and how many members there are; "A refusal returns its number and zero for all else"
+pub record Told : Type 0 where
+  pub number : ℕ
+  pub count : ℕ
+
+-- what each case of the enum stands for
+abbrev pub told : Input → Told
+told (input.Members n) = record { number = 0; count = n }
+told input.TooMany = record { number = 2; count = 0 }
+told input.Malformed = record { number = 13; count = 0 }
+
+-- what a text that was read so is answered with
+abbrev pub readTold : Read → Told
+readTold (refused k) = record { number = k; count = 0 }
+readTold (cluster fs ss ps) = record { number = 0; count = length fs }
+
+-- what the first line alone says
+unfoldable pub firstTold : List ℕ → Told
+firstTold xs =
+    cond (isField nKey xs && isNumber (numberOf (valueOf nKey xs)))
+    (cond (ltb positions (numberIn (numberOf (valueOf nKey xs)))) (told input.TooMany) (told (input.Members (numberIn (numberOf (valueOf nKey xs))))))
+    (told input.Malformed)

@@ -1,24 +1,20 @@
--- What the crate's own functions answer, at a place of the text. Of these only `hasEnd` and `firstOf` are cited by a public contract
+-- What the crate's own functions answer, at a place of the text. Of these only `hasEnd` is cited by a public contract
 -- (specs/Calls.antt). Assumes nothing.
 use Prim.Native.Nat.{ℕ, _+_}
-use mathlib.Core.Bool.{Bool, cond, _&&_, _||_}
+use mathlib.Core.Bool.{Bool, cond, _||_}
 use mathlib.Core.List.{List}
 use lib.Dec.{ltb}
 use lib.ListN.{length, drop}
-use Rattle.txset.specs.Sets.{positions}
 use Rattle.cluster_reader.specs.declared.lines.Line.{Line}
 use Rattle.cluster_reader.specs.declared.lines.Line.the-variants as line
 use Rattle.cluster_reader.specs.declared.lines.Value.{Value}
 use Rattle.cluster_reader.specs.declared.lines.Value.the-variants as value
-use Rattle.cluster_reader.specs.declared.First.{First}
-use Rattle.cluster_reader.specs.declared.First.the-variants as first
 use Rattle.cluster_reader.specs.declared.Member.{Member}
 use Rattle.cluster_reader.specs.declared.Member.the-variants as member
 use Rattle.cluster_reader.specs.declared.Parents.{Parents}
 use Rattle.cluster_reader.specs.declared.Parents.the-variants as named
-use Rattle.cluster_reader.specs.Numerals.{numberOf}
-use Rattle.cluster_reader.specs.Lines.{before, isLine, isField, valueOf}
-use Rattle.cluster_reader.specs.Reading.{nKey, isNumber, numberIn, parts, areNumbers, wordOf, isMember, memberFee, memberSize, memberParents}
+use Rattle.cluster_reader.specs.Lines.{before, isLine, isField}
+use Rattle.cluster_reader.specs.Reading.{parts, areNumbers, wordOf, isMember, memberFee, memberSize, memberParents}
 
 -- the place of the first byte b from there on, or the end
 abbrev pub placeOf : ℕ → List ℕ → ℕ → ℕ
@@ -39,14 +35,6 @@ fieldAt key text from =
 -- whether the first line is whole, or longer than a line may be
 abbrev pub hasEnd : List ℕ → Bool
 hasEnd text = ltb (length (before 10 text)) (length text) || ltb 1024 (length text)
-
--- what the first line says
-unfoldable pub firstOf : List ℕ → First
-firstOf text =
-    cond (isField nKey text && isNumber (numberOf (valueOf nKey text)))
-    (cond (ltb positions (numberIn (numberOf (valueOf nKey text)))) first.TooMany
-    (first.Count (record { n = numberIn (numberOf (valueOf nKey text)); next = nextLine text 0 })))
-    first.Malformed
 
 -- the set that a list of positions names
 unfoldable pub parentsIn : List ℕ → Parents

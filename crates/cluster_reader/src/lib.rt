@@ -3,9 +3,9 @@ ghost use mathlib.Core.Path.{_≡_};
 ghost use mathlib.Core.List.{[], _++_};
 ghost use Prim.Native.Nat.{_≤_};
 ghost use lib.ListN.{length, take, drop};
-ghost use Rattle.cluster_reader.specs.Reading.{read, members};
-ghost use Rattle.cluster_reader.specs.Calls.{inputOf, feesAfter, sizesAfter, parentsAfter, Decided, isDecided};
-ghost use Rattle.cluster_reader.specs.Steps.{firstOf, memberAt, parentsIn};
+ghost use Rattle.cluster_reader.specs.Reading.{read, members, told, readTold, firstTold};
+ghost use Rattle.cluster_reader.specs.Calls.{feesAfter, sizesAfter, parentsAfter, Decided, isDecided};
+ghost use Rattle.cluster_reader.specs.Steps.{memberAt, parentsIn};
 
 mod lines;
 mod numerals;
@@ -14,22 +14,11 @@ use feefrac::FeeFrac;
 use txset::POSITIONS;
 use txset::TxSet;
 
-// How many members were read, or the number of the refusal.
+// How many members were read, or which refusal it is: `told` of specs/Reading.antt has its number.
 pub enum Input {
     Members(usize),
-    Refused(u64),
-}
-
-// What the first line says, and where the next starts.
-pub enum First {
-    Count(FirstLine),
     TooMany,
     Malformed,
-}
-
-pub struct FirstLine {
-    pub n: usize,
-    pub next: usize,
 }
 
 pub enum Member {
@@ -57,37 +46,38 @@ pub fn read_cluster(
     sizes: &mut [u64; 64],
     parents: &mut [u64; 64],
 ) -> Input
-    ensures { λ r. ⌜ r ≡ inputOf (read (now (text .entry))) ⌝ }
+    ensures { λ r. ⌜ told r ≡ readTold (read (now (text .entry))) ⌝ }
     ensures { λ _. ⌜ now (fees .exit) ≡ feesAfter (read (now (text .entry))) (now (fees .entry)) ⌝ }
     ensures { λ _. ⌜ now (sizes .exit) ≡ sizesAfter (read (now (text .entry))) (now (sizes .entry)) ⌝ }
     ensures { λ _. ⌜ now (parents .exit) ≡ parentsAfter (read (now (text .entry))) (now (parents .entry)) ⌝ }
 {
     let first = first_line(text);
     match first {
-        First::Malformed => Input::Refused(13),
-        First::TooMany => Input::Refused(2),
-        First::Count(line) => read_members(text, line.next, line.n, fees, sizes, parents),
+        Input::Malformed => Input::Malformed,
+        Input::TooMany => Input::TooMany,
+        Input::Members(n) => {
+            let next = lines::place(text, 0, b'\n') + 1;
+            read_members(text, next, n, fees, sizes, parents)
+        }
     }
 }
 
-fn first_line(text: &[u8]) -> First
-    ensures { λ r. ⌜ r ≡ firstOf (now (text .entry)) ⌝ }
+// What the first line says: how many members there are to be, or a refusal.
+fn first_line(text: &[u8]) -> Input
+    ensures { λ r. ⌜ told r ≡ firstTold (now (text .entry)) ⌝ }
 {
     let lines::Value::Between(part) = lines::field(text, 0, b"n=") else {
-        return First::Malformed;
+        return Input::Malformed;
     };
     let start = part.start;
     let end = part.end;
     let numerals::Number::Value(n) = numerals::read_number(&text[start..end]) else {
-        return First::Malformed;
+        return Input::Malformed;
     };
     if (POSITIONS as u64) < n {
-        return First::TooMany;
+        return Input::TooMany;
     }
-    First::Count(FirstLine {
-        n: n as usize,
-        next: end + 1,
-    })
+    Input::Members(n as usize)
 }
 
 // The arrays are filled only once every line is of its form, so a refusal leaves them as they were.
@@ -101,7 +91,7 @@ fn read_members(
 ) -> Input
     requires { ⌜ from ≤ length (now text) ⌝ }
     requires { ⌜ n ≤ 64 ⌝ }
-    ensures { λ r. ⌜ r ≡ inputOf (members n (drop from (now (text .entry))) [] [] []) ⌝ }
+    ensures { λ r. ⌜ told r ≡ readTold (members n (drop from (now (text .entry))) [] [] []) ⌝ }
     ensures { λ _. ⌜ now (fees .exit) ≡ feesAfter (members n (drop from (now (text .entry))) [] [] []) (now (fees .entry)) ⌝ }
     ensures { λ _. ⌜ now (sizes .exit) ≡ sizesAfter (members n (drop from (now (text .entry))) [] [] []) (now (sizes .entry)) ⌝ }
     ensures { λ _. ⌜ now (parents .exit) ≡ parentsAfter (members n (drop from (now (text .entry))) [] [] []) (now (parents .entry)) ⌝ }
@@ -113,7 +103,7 @@ fn read_members(
     let mut i: usize = 0;
     while i < n {
         let Member::Read(m) = read_member(text, at) else {
-            return Input::Refused(13);
+            return Input::Malformed;
         };
         FeeFrac {
             fee: m.fee,
@@ -124,7 +114,7 @@ fn read_members(
         i += 1;
     }
     if at < text.len() {
-        return Input::Refused(13);
+        return Input::Malformed;
     }
     copy_rates(n, &new_fees, &new_sizes, fees, sizes);
     copy_sets(n, &new_parents, parents);
@@ -227,8 +217,8 @@ pub fn is_decided(start: &[u8]) -> bool
     ensures { λ r. ⌜ r ≡ isDecided (now (start .entry)) ⌝ }
 {
     match first_line(start) {
-        First::Count(_) => false,
-        First::TooMany => true,
-        First::Malformed => lines::has_end(start),
+        Input::Members(_) => false,
+        Input::TooMany => true,
+        Input::Malformed => lines::has_end(start),
     }
 }

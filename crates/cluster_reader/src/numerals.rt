@@ -10,7 +10,7 @@ pub enum Number {
 
 pub enum Fee {
     Sats(i64),
-    Wrong,
+    Malformed,
 }
 
 // A plain decimal without extra zeros that fits a u64.
@@ -50,19 +50,19 @@ pub fn read_fee(text: &[u8]) -> Fee
     ensures { λ r. ⌜ r ≡ feeOf (now (text .entry)) ⌝ }
 {
     if text.len() == 0 {
-        return Fee::Wrong;
+        return Fee::Malformed;
     }
     if text[0] == b'-' {
         let Number::Value(size) = read_number(&text[1..]) else {
-            return Fee::Wrong;
+            return Fee::Malformed;
         };
         return below_zero(size);
     }
     let Number::Value(size) = read_number(text) else {
-        return Fee::Wrong;
+        return Fee::Malformed;
     };
     if 9_223_372_036_854_775_807 < size {
-        return Fee::Wrong;
+        return Fee::Malformed;
     }
     Fee::Sats(size as i64)
 }
@@ -71,10 +71,10 @@ fn below_zero(size: u64) -> Fee
     ensures { λ r. ⌜ r ≡ negative (Number.Value size) ⌝ }
 {
     if size == 0 {
-        return Fee::Wrong;
+        return Fee::Malformed;
     }
     if 9_223_372_036_854_775_808 < size {
-        return Fee::Wrong;
+        return Fee::Malformed;
     }
     let less = (size - 1) as i64;
     Fee::Sats(-1 - less)

@@ -15,10 +15,10 @@ use Rattle.refusals.specs.Refusals.{answerOf, success, refusal}
 use Rattle.refusals.proofs.Lines.{Takes, succeeds, writes, answered}
 use Rattle.linearize.specs.Linearize.{refusals, linearOrder, reply, roomAfter}
 use Rattle.cluster_reader.specs.declared.Input.{Input}
-use Rattle.cluster_reader.specs.declared.Input.the-variants.{Members, Refused}
-use Rattle.cluster_reader.specs.Reading.{Read, refused, cluster, read}
-use Rattle.cluster_reader.specs.Calls.{inputOf, feesAfter, sizesAfter, parentsAfter}
-use Rattle.cluster_reader.proofs.Lengths.{read-whole}
+use Rattle.cluster_reader.specs.declared.Input.the-variants.{Members}
+use Rattle.cluster_reader.specs.Reading.{Read, refused, cluster, read, Told, told, readTold}
+use Rattle.cluster_reader.specs.Calls.{feesAfter, sizesAfter, parentsAfter}
+use Rattle.cluster_reader.proofs.Lengths.{read-whole, read-refused}
 use Rattle.cluster_writer.specs.Writing.{refusalText, successText}
 use Rattle.cluster_writer.specs.Calls.{few, successPrinted, successRoom}
 use Rattle.lists.specs.Lists.{overwrite}
@@ -106,15 +106,15 @@ pub record Given (text : List ℕ) (n : ℕ) (fees : List ℤ) (sizes parents : 
   pub sizes-are : Starts ss sizes n
   pub parents-are : Starts ps parents n
 
-module _ (text : List ℕ) {i : Input} (e : i ≡ inputOf (read text)) where
-  -- it was refused
-  pub refused-input : {k : ℕ} → i ≡ Refused k → refusalText k ≡ response text
+module _ (text : List ℕ) {i : Input} (e : told i ≡ readTold (read text)) where
+  -- it was refused, with a number that is not 0
+  pub refused-input : {j : Input} → i ≡ j → (told j .number ≡ 0 → ⊥) → refusalText (told j .number) ≡ response text
   unfolding response
-  refused-input {k} f = go (read text) (sym e ∙ f)
+  refused-input {j} f n = go (read text) (ap (λ (t : Told). t .number) (sym (ap told f) ∙ e))
     where
-      go : (r : Read) → inputOf r ≡ Refused k → refusalText k ≡ textOf r
-      go (refused j) h = ap refusalText (let z : k ≡ j = cc in z)
-      go (cluster fs ss ps) h = let z : _≡_ {A = ℕ} 0 1 = cc in absurd (omega arith)
+      go : (r : Read) → told j .number ≡ readTold r .number → refusalText (told j .number) ≡ textOf r
+      go (refused k) h = ap refusalText h
+      go (cluster fs ss ps) h = absurd (n h)
 
   -- it gave n members, and the arrays start with them
   module _
@@ -126,14 +126,14 @@ module _ (text : List ℕ) {i : Input} (e : i ≡ inputOf (read text)) where
       (y : sizes ≡ sizesAfter (read text) sizes₀)
       (z : parents ≡ parentsAfter (read text) parents₀) where
     pub members-read : Given text n fees sizes parents
-    members-read = go (read text) refl (sym e ∙ f) x y z
+    members-read = go (read text) refl (sym (ap told f) ∙ e) x y z
       where
-        go : (r : Read) → read text ≡ r → inputOf r ≡ Members n → fees ≡ feesAfter r fees₀ → sizes ≡ sizesAfter r sizes₀ → parents ≡ parentsAfter r parents₀
+        go : (r : Read) → read text ≡ r → told (Members n) ≡ readTold r → fees ≡ feesAfter r fees₀ → sizes ≡ sizesAfter r sizes₀ → parents ≡ parentsAfter r parents₀
             → Given text n fees sizes parents
-        go (refused k) is h a b c = let z : _≡_ {A = ℕ} 0 1 = cc in absurd (omega arith)
+        go (refused k) is h a b c = absurd (omega (arith, read-refused text is, ap (λ (t : Told). t .number) h))
         go (cluster fs ss ps) is h a b c =
             let w = read-whole text is in
-            let count : n ≡ length fs = cc in
+            let count : n ≡ length fs = ap (λ (t : Told). t .count) h in
             record {
               fs = fs;
               ss = ss;

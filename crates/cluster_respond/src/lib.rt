@@ -17,7 +17,8 @@ pub fn respond(text: &[u8], out: &mut [u8; 8192]) -> usize
     let mut parents = [0u64; 64];
     let input = cluster_reader::read_cluster(text, &mut fees, &mut sizes, &mut parents);
     match input {
-        Input::Refused(number) => cluster_writer::write_refusal(number, out),
+        Input::Malformed => cluster_writer::write_refusal(refusals::INPUT_ILL_FORMED, out),
+        Input::TooMany => cluster_writer::write_refusal(refusals::TOO_MANY_MEMBERS, out),
         Input::Members(n) => respond_cluster(&fees[..n], &sizes[..n], &parents[..n], out),
     }
 }

@@ -221,7 +221,8 @@ fn cluster_case(call: Call, text: &[u8], room: &mut [usize]) {
     let mut parents = [0u64; 64];
     let input = cluster_reader::read_cluster(text, &mut fees, &mut sizes, &mut parents);
     match input {
-        Input::Refused(number) => put_refusal(number),
+        Input::Malformed => put_refusal(refusals::INPUT_ILL_FORMED),
+        Input::TooMany => put_refusal(refusals::TOO_MANY_MEMBERS),
         Input::Members(n) => run(call, &fees[..n], &sizes[..n], &parents[..n], room),
     }
 }

@@ -37,13 +37,13 @@ returns-3 : tie.Need-returns-3
 returns-3 c =
     let d = c .before .before in
     let r = d .before .before in
-    sym (first-many (text (r .before .before .before)) (the-field (r .before .before .before)) (d .n .given .0 .0) (number r ∙ d .n .given .1) (c .if1 .taken))
+    sym (first-many (text (r .before .before .before)) (the-field (r .before .before .before) .field) (d .n .given .0 .0) (number r ∙ d .n .given .1) (c .if1 .taken))
 
 returns-4 : tie.Need-returns-4
 returns-4 c =
     let d = c .before .before in
     let r = d .before .before in
-    sym (first-count (text (r .before .before .before)) (the-field (r .before .before .before)) (d .n .given .0 .0) (number r ∙ d .n .given .1) (c .if1 .left))
+    sym (first-count (text (r .before .before .before)) (the-field (r .before .before .before) .field) (d .n .given .0 .0) (number r ∙ d .n .given .1) (c .if1 .left))
 
 pub first-line-spec : {M : Type 1} → statement M
 first-line-spec =
@@ -62,5 +62,4 @@ first-line-spec =
     (λ c. search needs)
     returns-2
     returns-3
-    (λ c. omega (arith, the-field (c .before .before .before .before .before .before .before)))
     returns-4)

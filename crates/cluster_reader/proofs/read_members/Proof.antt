@@ -8,7 +8,7 @@ use mir.Val.{SFits}
 use mir.Facts.{toZ-ofZ}
 use borrow.Author.Needs.{needs, sfits-of}
 use Rattle.txset.specs.Sets.{putAt}
-use Rattle.cluster_reader.proofs.Reading.{Taken, none-taken, stop, turn, tail, done, member-lines, member-malformed, refused-left, cluster-left}
+use Rattle.cluster_reader.proofs.Reading.{Taken, none-taken, stop, turn, tail, done, member-lines, member-malformed, malformed-left, cluster-left}
 use Rattle.cluster_reader.proofs.read_members.Statement.{statement}
 use Rattle.cluster_reader.proofs.read_members.Tie as tie
 
@@ -29,7 +29,7 @@ returns c =
     let r = c .before .before in
     let d = r .before .before in
     let e = sym (r .read-member .ensures) ∙ c .enum-told .given .1 in
-    refused-left (stop (d .loop .inv) (r .before .loop-test .taken) (member-malformed (d .before .before .args .text .now) (d .loop .at) e))
+    malformed-left (stop (d .loop .inv) (r .before .loop-test .taken) (member-malformed (d .before .before .args .text .now) (d .loop .at) e))
 
 pub read-members-spec : {M : Type 1} → statement M
 unfolding putAt
@@ -64,7 +64,7 @@ read-members-spec =
     (c .before .put2 .ensures))
     (λ c.
     let d = c .before in
-    refused-left (tail (d .before .loop .inv) (d .loop-test .left) (omega (arith, d .before .loop .inv .within))))
+    malformed-left (tail (d .before .loop .inv) (d .loop-test .left) (omega (arith, d .before .loop .inv .within))))
     (λ c κs. search needs)
     (λ c κs. search needs)
     (λ c.
