@@ -1,7 +1,7 @@
 -- What the order of specs/Candidates.antt is, for readers: each member once, and after its ancestors. Then what the sums are that it goes by.
 -- `fs` are the fees of the members, `ss` their sizes, and `anc i a` says that a is an ancestor of i. Assumes nothing.
 use mathlib.Core.Path.{_≡_, refl, sym, ap, ap₂, _∙_}
-use mathlib.Core.Bool.{Bool, true, false, cond, not, _&&_, _||_, and-true}
+use mathlib.Core.Bool.{Bool, true, false, cond, not, _&&_, and-true, or-comm}
 use mathlib.Core.List.{List, [], _∷_, _++_}
 use Prim.Native.Nat.{ℕ, suc, _+_, _-_, _≤_, _<_}
 use native.Mathlib.Omega.{arith}
@@ -15,7 +15,7 @@ use Rattle.feefrac.proofs.Exact.{difference-exact, abs-difference, abs-exact, e
 use Rattle.lists.specs.Below.{keepIf, countFrom, listFrom}
 use Rattle.lists.specs.Lists.{anyOf, only, elem, distinct}
 use Rattle.lists.proofs.Below.{elem-in, list-ext, list-with, list-without, count-list}
-use Rattle.lists.proofs.Bools.{and-left, and-right}
+use Rattle.lists.proofs.Bools.{and-left, and-right, without-or}
 use Rattle.lists.proofs.Lists.{elem-head, elem-tail, After, after-none}
 use Rattle.lists.proofs.Ranges.{count-le}
 use Rattle.feeset.specs.Total.{total}
@@ -92,14 +92,7 @@ module _
   module _ (f : ℕ → Bool) (n t : ℕ) (ts : List ℕ) (below : t < n) (new : elem t ts ≡ false) where
     less : (j : ℕ) → (f j && not (elem j (t ∷ ts))) ≡ ((f j && not (elem j ts)) && not (eqb j t))
     unfolding elem anyOf
-    less j = turn (f j) (eqb j t) (elem j ts)
-      where
-        turn : (a b c : Bool) → (a && not (b || c)) ≡ ((a && not c) && not b)
-        turn true true true = refl
-        turn true true false = refl
-        turn true false true = refl
-        turn true false false = refl
-        turn false b c = refl
+    less j = ap (λ (b : Bool). f j && not b) (or-comm (eqb j t) (elem j ts)) ∙ sym (without-or (f j) (elem j ts) (eqb j t))
 
     other : f t ≡ false → (j : ℕ) → ((f j && not (elem j ts)) && not (eqb j t)) ≡ (f j && not (elem j ts))
     other e j = go (eqb j t) refl

@@ -1,18 +1,18 @@
 -- What holds of the chunks of every list of members. Assumes nothing.
-use Prim.Native.Nat.{ℕ, zero, suc, _+_, _^_, _≤_, _<_}
-use native.Mathlib.Nat.{not-suc-le-zero, le-of-suc-le-suc}
+use Prim.Native.Nat.{ℕ, zero, suc, _+_, _≤_, _<_}
 use native.Mathlib.Omega.{arith}
-use mathlib.Core.Path.{_≡_, refl, sym, ap, ap₂, _∙_}
+use mathlib.Core.Path.{_≡_, refl, ap, _∙_}
 use mathlib.Core.Bool.{Bool, true, false, not, _&&_, and-eq-true-iff}
-use mathlib.Core.List.{List, [], _∷_, _++_, map, map-append, append-nil, append-assoc}
+use mathlib.Core.List.{List, [], _∷_, _++_, append-nil, append-assoc}
 use lib.Dec.{lit<}
-use lib.ListN.{length, take, drop, getD, length-append, length-map}
-use lib.Seq.{take-append-seam, drop-append-seam, take-at, drop-at}
-use lib.IntN.{ℤ, natAbs, _+ℤ_, +ℤ-idr, +ℤ-comm}
-use Rattle.feefrac.proofs.Exact.{sum-exact, exactSum, exact-append, spread, spread-append, abs-exact, Within, within-spread, sumOf, sumOf-append}
+use lib.ListN.{length, getD, length-append, length-map}
+use lib.IntN.{ℤ}
+use Rattle.feefrac.proofs.Exact.{spread, sumOf, sumOf-append, Within, within-spread}
+use Rattle.feefrac.proofs.Exact.{feesOf, sizesOf, far, far-append, HasFees, HasSizes, Sums, fees-one, fees-both, sizes-one, sizes-both}
 use Rattle.lists.proofs.Bools.{cond-where}
+use Rattle.lists.proofs.Lists.{each-at, each-snoc, Each}
 use Rattle.feefrac.specs.declared.FeeFrac.{FeeFrac}
-use Rattle.feefrac.specs.Rate.{heldSize, sum, higher}
+use Rattle.feefrac.specs.Rate.{sum, higher}
 use Rattle.txset.specs.Sets.{positions}
 use Rattle.txset.proofs.Words.{Fits}
 use Rattle.refusals.specs.Refusals.{anyOutside}
@@ -54,11 +54,6 @@ lengths-sum rs = omega (arith, total-lengths (chunksAfter [] rs), count-after rs
 
 -- ---- each length is at least 1
 
--- each element has the property
-Each : {A : Type 0} → (A → Type 0) → List A → Type 0
-Each P [] = Unit {0}
-Each P (x ∷ xs) = P x × Each P xs
-
 abbrev Some : ℕ → Type 0
 Some k = 1 ≤ k
 
@@ -71,28 +66,17 @@ filled-swallow c [] h p = (h, tt)
 filled-swallow c (t ∷ ts) h p =
     cond-where (Each Filled) (higher (c .rate) (t .rate)) (λ e. filled-swallow (joined c t) ts (omega arith) (p .1)) (λ e. (h, p))
 
-each-snoc : (xs : List ℕ) (k : ℕ) → Each Some xs → Some k → Each Some (xs ++ (k ∷ []))
-unfolding Each
-each-snoc [] k p h = (h, tt)
-each-snoc (x ∷ xs) k p h = (p .0, each-snoc xs k (p .1) h)
-
 each-length : (cs : List Chunk) → Each Filled cs → Each Some (lengthsOf cs)
 unfolding Each lengthsOf
 each-length [] p = tt
-each-length (c ∷ cs) p = each-snoc (lengthsOf cs) (c .len) (each-length cs (p .1)) (p .0)
+each-length (c ∷ cs) p = each-snoc Some (lengthsOf cs) (each-length cs (p .1)) (p .0)
 
 each-some : (rs : List FeeFrac) → Each Some (chunkLengths rs)
 unfolding chunkLengths Each
 each-some rs = each-length (chunksAfter [] rs) (after-keeps (Each Filled) (λ r cs p. filled-swallow (alone r) cs (omega arith) p) rs [] tt)
 
-each-at : (xs : List ℕ) → Each Some xs → (i : ℕ) → i < length xs → 1 ≤ getD xs i 0
-unfolding Each
-each-at [] p i h = absurd (not-suc-le-zero h)
-each-at (x ∷ xs) p zero h = p .0
-each-at (x ∷ xs) p (suc i) h = each-at xs (p .1) i (le-of-suc-le-suc h)
-
 pub lengths-positive : (rs : List FeeFrac) (i : ℕ) → i < length (chunkLengths rs) → 1 ≤ getD (chunkLengths rs) i 0
-lengths-positive rs = each-at (chunkLengths rs) (each-some rs)
+lengths-positive rs = each-at Some (chunkLengths rs) 0 (each-some rs)
 
 -- ---- so there are no more chunks than members
 
@@ -170,53 +154,48 @@ module _
   unfolding CutBy
   cut-chunks rs h = cut-after rs [] [] h refl
 
--- ---- each chunk has the exact sum of its members' fees
+-- ---- each chunk has the sum of its own members
 
-abbrev pub feesOf : List FeeFrac → List ℤ
-feesOf rs = map (λ r. r .fee) rs
-
--- c is the chunk of these members
-pub record Has (c : Chunk) (own : List FeeFrac) : Type 0 where
+-- c is the chunk of these members, and its sum has the property with them
+pub record Of (P : FeeFrac → List FeeFrac → Type 0) (c : Chunk) (own : List FeeFrac) : Type 0 where
   pub len : c .len ≡ length own
-  pub fee : c .rate .fee ≡ exactSum (feesOf own)
+  pub rate : P (c .rate) own
 
--- each chunk is that of its own
-abbrev pub CutInto : List FeeFrac → List Chunk → Type 0
-CutInto rs cs = CutBy Has rs cs
+-- a property of sums, as `cut-chunks` asks it of chunks
+module _
+    (P : FeeFrac → List FeeFrac → Type 0)
+    (Q : List FeeFrac → Type 0)
+    (in-front : (xs ys : List FeeFrac) → Q (xs ++ ys) → Q xs)
+    (in-back : (xs ys : List FeeFrac) → Q (xs ++ ys) → Q ys)
+    (one : (r : FeeFrac) → Q (r ∷ []) → P r (r ∷ []))
+    (two : (a b : FeeFrac) (xs ys : List FeeFrac) → Q (xs ++ ys) → P a ys → P b xs → P (sum a b) (xs ++ ys)) where
+  cut-sums : (rs : List FeeFrac) → Q rs → CutBy (Of P) rs (chunksAfter [] rs)
+  cut-sums =
+      cut-chunks (Of P) Q in-front in-back (λ r q. record { len = refl; rate = one r q })
+      (λ c t xs ys q p k. record {
+        len = omega (arith, length-append xs ys, p .len, k .len);
+        rate = two (c .rate) (t .rate) xs ys q (p .rate) (k .rate);
+      })
 
-fees-append : (xs ys : List FeeFrac) → feesOf (xs ++ ys) ≡ feesOf xs ++ feesOf ys
-fees-append xs ys = map-append (λ r. r .fee) xs ys
+-- the fees, signs aside, stay below 2^63 together
+abbrev pub Near : List FeeFrac → Type 0
+Near rs = far rs < 9223372036854775808
 
-exact-alone : (r : FeeFrac) → Has (alone r) (r ∷ [])
-unfolding exactSum
-exact-alone r = record { len = refl; fee = sym (+ℤ-idr (r .fee)) }
+near-front : (xs ys : List FeeFrac) → Near (xs ++ ys) → Near xs
+near-front xs ys q = omega (arith, far-append xs ys)
 
--- how far the fees are from zero together
-abbrev far : List FeeFrac → ℕ
-far rs = spread (feesOf rs)
+near-back : (xs ys : List FeeFrac) → Near (xs ++ ys) → Near ys
+near-back xs ys q = omega (arith, far-append xs ys)
 
-far-append : (xs ys : List FeeFrac) → far (xs ++ ys) ≡ far xs + far ys
-far-append xs ys = ap spread (fees-append xs ys) ∙ spread-append (feesOf xs) (feesOf ys)
+near-both : (a b : FeeFrac) (xs ys : List FeeFrac) → Near (xs ++ ys) → HasFees a ys → HasFees b xs → HasFees (sum a b) (xs ++ ys)
+near-both a b xs ys q = fees-both a b xs ys (omega (arith, far-append xs ys))
 
-exact-joined : (c t : Chunk) (xs ys : List FeeFrac) → far xs + far ys < 9223372036854775808 → Has c ys → Has t xs → Has (joined c t) (xs ++ ys)
-exact-joined c t xs ys h p q =
-    record {
-      len = omega (arith, length-append xs ys, p .len, q .len);
-      fee =
-          sum-exact (c .rate) (t .rate)
-          (omega (arith, ap natAbs (p .fee), ap natAbs (q .fee), abs-exact (feesOf xs), abs-exact (feesOf ys)))
-          ∙ ap₂ _+ℤ_ (p .fee) (q .fee) ∙ +ℤ-comm (exactSum (feesOf ys)) (exactSum (feesOf xs))
-          ∙ sym (ap exactSum (fees-append xs ys) ∙ exact-append (feesOf xs) (feesOf ys));
-    }
-
--- where the fees, signs aside, stay below 2^63 together
-pub chunks-exact : (rs : List FeeFrac) → spread (feesOf rs) < 9223372036854775808 → CutInto rs (chunksAfter [] rs)
-chunks-exact rs h =
-    cut-chunks Has (λ l. far l < 9223372036854775808) (λ xs ys q. omega (arith, far-append xs ys)) (λ xs ys q. omega (arith, far-append xs ys))
-    (λ r _. exact-alone r) (λ c t xs ys q. exact-joined c t xs ys (omega (arith, far-append xs ys))) rs h
+-- then each chunk has the exact sum of its members' fees
+pub chunks-exact : (rs : List FeeFrac) → Near rs → CutBy (Of HasFees) rs (chunksAfter [] rs)
+chunks-exact = cut-sums HasFees Near near-front near-back (λ r _. fees-one r) near-both
 
 -- so it is for at most 64 members with fees within the limit
-pub chunks-within : (rs : List FeeFrac) → length rs ≤ 64 → Within (feesOf rs) → CutInto rs (chunksAfter [] rs)
+pub chunks-within : (rs : List FeeFrac) → length rs ≤ 64 → Within (feesOf rs) → CutBy (Of HasFees) rs (chunksAfter [] rs)
 chunks-within rs few h = chunks-exact rs (omega (arith, within-spread (feesOf rs) h, length-map rs (λ r. r .fee)))
 
 rates-far : (fs : List ℤ) (ss : List ℕ) → far (rates fs ss) ≤ spread fs
@@ -226,45 +205,32 @@ rates-far (f ∷ fs) [] = omega arith
 rates-far (f ∷ fs) (s ∷ ss) = omega (arith, rates-far fs ss)
 
 -- and for every cluster that the call does not refuse
-pub call-exact : (fs : List ℤ) (ss : List ℕ) → length fs ≤ positions → anyOutside fs ≡ false → CutInto (rates fs ss) (chunksAfter [] (rates fs ss))
-call-exact fs ss few e = chunks-exact (rates fs ss) (omega (arith, rates-far fs ss, within-spread fs (inside-within fs e)))
+call-near : (fs : List ℤ) (ss : List ℕ) → length fs ≤ positions → anyOutside fs ≡ false → Near (rates fs ss)
+call-near fs ss few e = omega (arith, rates-far fs ss, within-spread fs (inside-within fs e))
 
--- ---- each chunk has the sum of its members' sizes, or 2^64 - 1 where that is more
+pub call-exact : (fs : List ℤ) (ss : List ℕ) → length fs ≤ positions → anyOutside fs ≡ false
+    → CutBy (Of HasFees) (rates fs ss) (chunksAfter [] (rates fs ss))
+call-exact fs ss few e = chunks-exact (rates fs ss) (call-near fs ss few e)
 
-abbrev pub sizesOf : List FeeFrac → List ℕ
-sizesOf rs = map (λ r. r .size) rs
+-- ---- sizes that are below 2^64 each, as those of a machine are
 
--- c is the chunk of these members: the sum of their sizes is held at the top once, whatever the order in which they were joined
-pub record Sized (c : Chunk) (own : List FeeFrac) : Type 0 where
-  pub len : c .len ≡ length own
-  pub size : c .rate .size ≡ heldSize (sumOf (sizesOf own))
+abbrev pub Small : List FeeFrac → Type 0
+Small rs = Fits (sizesOf rs)
 
-sized-alone : (r : FeeFrac) → r .size < 2 ^ 64 → Sized (alone r) (r ∷ [])
-unfolding sumOf
-sized-alone r h = record { len = refl; size = omega arith }
+small-front : (xs ys : List FeeFrac) → Small (xs ++ ys) → Small xs
+small-front [] ys h j = lit< tt
+small-front (x ∷ xs) ys h zero = h 0
+small-front (x ∷ xs) ys h (suc j) = small-front xs ys (λ i. h (suc i)) j
 
-sized-joined : (c t : Chunk) (xs ys : List FeeFrac) → Sized c ys → Sized t xs → Sized (joined c t) (xs ++ ys)
-unfolding sum
-sized-joined c t xs ys p q =
-    let e : sumOf (sizesOf (xs ++ ys)) ≡ sumOf (sizesOf xs) + sumOf (sizesOf ys) =
-    ap sumOf (map-append (λ r. r .size) xs ys) ∙ sumOf-append (sizesOf xs) (sizesOf ys) in
-    record { len = omega (arith, length-append xs ys, p .len, q .len); size = omega (arith, p .size, q .size) }
+small-back : (xs ys : List FeeFrac) → Small (xs ++ ys) → Small ys
+small-back [] ys h = h
+small-back (x ∷ xs) ys h = small-back xs ys (λ j. h (suc j))
 
-fits-front : (xs ys : List FeeFrac) → Fits (sizesOf (xs ++ ys)) → Fits (sizesOf xs)
-fits-front [] ys h j = lit< tt
-fits-front (x ∷ xs) ys h zero = h 0
-fits-front (x ∷ xs) ys h (suc j) = fits-front xs ys (λ i. h (suc i)) j
+-- each chunk has the sum of its members' sizes, or 2^64 - 1 where that is more, for any fees
+pub chunks-sized : (rs : List FeeFrac) → Small rs → CutBy (Of HasSizes) rs (chunksAfter [] rs)
+chunks-sized = cut-sums HasSizes Small small-front small-back (λ r q. sizes-one r (q 0)) (λ a b xs ys _. sizes-both a b xs ys)
 
-fits-back : (xs ys : List FeeFrac) → Fits (sizesOf (xs ++ ys)) → Fits (sizesOf ys)
-fits-back [] ys h = h
-fits-back (x ∷ xs) ys h = fits-back xs ys (λ j. h (suc j))
-
--- for any fees, and sizes that are below 2^64 each, as those of a machine are
-pub chunks-sized : (rs : List FeeFrac) → Fits (sizesOf rs) → CutBy Sized rs (chunksAfter [] rs)
-chunks-sized rs h =
-    cut-chunks Sized (λ l. Fits (sizesOf l)) fits-front fits-back (λ r q. sized-alone r (q 0)) (λ c t xs ys _. sized-joined c t xs ys) rs h
-
-rates-fit : (fs : List ℤ) (ss : List ℕ) → Fits ss → Fits (sizesOf (rates fs ss))
+rates-fit : (fs : List ℤ) (ss : List ℕ) → Fits ss → Small (rates fs ss)
 unfolding rates
 rates-fit [] ss h j = lit< tt
 rates-fit (f ∷ fs) [] h j = lit< tt
@@ -272,35 +238,15 @@ rates-fit (f ∷ fs) (s ∷ ss) h zero = h 0
 rates-fit (f ∷ fs) (s ∷ ss) h (suc j) = rates-fit fs ss (λ i. h (suc i)) j
 
 -- so for every cluster
-pub call-sized : (fs : List ℤ) (ss : List ℕ) → Fits ss → CutBy Sized (rates fs ss) (chunksAfter [] (rates fs ss))
+pub call-sized : (fs : List ℤ) (ss : List ℕ) → Fits ss → CutBy (Of HasSizes) (rates fs ss) (chunksAfter [] (rates fs ss))
 call-sized fs ss h = chunks-sized (rates fs ss) (rates-fit fs ss h)
 
--- ---- the fee and the size of a chunk are those of the same members
-
--- the sum of c is that of these members: the fee exactly, the size up to 2^64 - 1
-pub record Sums (c : Chunk) (own : List FeeFrac) : Type 0 where
-  pub len : c .len ≡ length own
-  pub fee : c .rate .fee ≡ exactSum (feesOf own)
-  pub size : c .rate .size ≡ heldSize (sumOf (sizesOf own))
-
--- two cuts of one list into chunks of the same lengths are one cut
-sums-both : (rs qs : List FeeFrac) (cs : List Chunk) → rs ≡ qs → CutInto rs cs → CutBy Sized qs cs → CutBy Sums rs cs
-unfolding CutBy
-sums-both rs qs [] q j k = j
-sums-both rs qs (c ∷ cs) q j k =
-    let e : j .0 ++ j .1 ≡ k .0 ++ k .1 = sym (j .2) ∙ q ∙ k .2 in
-    let l : length (k .0) ≡ length (j .0) =
-    omega (arith, ap length e, length-append (j .0) (j .1), length-append (k .0) (k .1), j .3 .len, k .3 .len) in
-    let f : j .0 ≡ k .0 = sym (take-append-seam (j .0) (j .1)) ∙ ap (take (length (j .0))) e ∙ take-at (k .0) (k .1) (length (j .0)) l in
-    let o : j .1 ≡ k .1 = sym (drop-append-seam (j .0) (j .1)) ∙ ap (drop (length (j .0))) e ∙ drop-at (k .0) (k .1) (length (j .0)) l in (
-      j .0,
-      j .1,
-      j .2,
-      record { len = j .3 .len; fee = j .3 .fee; size = k .3 .size ∙ ap (λ (own : List FeeFrac). heldSize (sumOf (sizesOf own))) (sym o) },
-      sums-both (j .0) (k .0) cs f (j .4) (k .4),
-    )
-
--- for every cluster that the call does not refuse
+-- the fee and the size of a chunk are those of the same members, for every cluster that the call does not refuse
 pub call-sums : (fs : List ℤ) (ss : List ℕ) → length fs ≤ positions → anyOutside fs ≡ false → Fits ss
-    → CutBy Sums (rates fs ss) (chunksAfter [] (rates fs ss))
-call-sums fs ss few e h = sums-both (rates fs ss) (rates fs ss) (chunksAfter [] (rates fs ss)) refl (call-exact fs ss few e) (call-sized fs ss h)
+    → CutBy (Of Sums) (rates fs ss) (chunksAfter [] (rates fs ss))
+call-sums fs ss few e h =
+    cut-sums Sums (λ l. Near l × Small l) (λ xs ys q. (near-front xs ys (q .0), small-front xs ys (q .1)))
+    (λ xs ys q. (near-back xs ys (q .0), small-back xs ys (q .1)))
+    (λ r q. record { fee = fees-one r; size = sizes-one r (q .1 0) })
+    (λ a b xs ys q p k. record { fee = near-both a b xs ys (q .0) (p .fee) (k .fee); size = sizes-both a b xs ys (p .size) (k .size) })
+    (rates fs ss) (call-near fs ss few e, rates-fit fs ss h)

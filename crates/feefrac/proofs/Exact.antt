@@ -1,12 +1,12 @@
 -- Where a fee sum is not held: two fees whose sizes, signs aside, add up to less than 2^63. Assumes nothing.
-use mathlib.Core.Path.{_≡_, sym, ap, _∙_}
-use mathlib.Core.List.{List, [], _∷_, _++_}
-use Prim.Native.Nat.{ℕ, zero, suc, _+_, _*_, _≤_, _<_}
+use mathlib.Core.Path.{_≡_, sym, ap, ap₂, _∙_}
+use mathlib.Core.List.{List, [], _∷_, _++_, map, map-append}
+use Prim.Native.Nat.{ℕ, zero, suc, _+_, _*_, _^_, _≤_, _<_}
 use native.Mathlib.Omega.{arith}
-use lib.IntN.{ℤ, pos, negsuc, negℤ, natAbs, _+ℤ_, _-ℤ_, +ℤ-idl, +ℤ-assoc}
+use lib.IntN.{ℤ, pos, negsuc, negℤ, natAbs, _+ℤ_, _-ℤ_, +ℤ-idl, +ℤ-idr, +ℤ-assoc, +ℤ-comm}
 use lib.ListN.{length, getD}
 use Rattle.feefrac.specs.declared.FeeFrac.{FeeFrac}
-use Rattle.feefrac.specs.Rate.{heldFee, sum, difference}
+use Rattle.feefrac.specs.Rate.{heldFee, heldSize, sum, difference}
 use Rattle.feefrac.proofs.Signed.{up, down, Sum, sum as parts, up-neg, down-neg, in-range, held-in}
 
 abs-parts : (z : ℤ) → natAbs z ≡ up z + down z
@@ -98,3 +98,53 @@ pub within-at : (fs : List ℤ) → Within fs → (i : ℕ) → natAbs (getD fs 
 within-at [] h i = omega arith
 within-at (f ∷ fs) h zero = h 0 (omega arith)
 within-at (f ∷ fs) h (suc i) = within-at fs (λ j l. h (suc j) (omega arith)) i
+
+-- ---- the sum of some feerates
+
+abbrev pub feesOf : List FeeFrac → List ℤ
+feesOf rs = map (λ r. r .fee) rs
+
+abbrev pub sizesOf : List FeeFrac → List ℕ
+sizesOf rs = map (λ r. r .size) rs
+
+-- how far their fees are from zero together
+abbrev pub far : List FeeFrac → ℕ
+far rs = spread (feesOf rs)
+
+pub far-append : (xs ys : List FeeFrac) → far (xs ++ ys) ≡ far xs + far ys
+far-append xs ys = ap spread (map-append (λ r. r .fee) xs ys) ∙ spread-append (feesOf xs) (feesOf ys)
+
+-- a has their fees' exact sum
+abbrev pub HasFees : FeeFrac → List FeeFrac → Type 0
+HasFees a own = a .fee ≡ exactSum (feesOf own)
+
+-- and their sizes' sum, or 2^64 - 1 where that is more: it is held at the top once, whatever the order in which they were summed
+abbrev pub HasSizes : FeeFrac → List FeeFrac → Type 0
+HasSizes a own = a .size ≡ heldSize (sumOf (sizesOf own))
+
+-- a feerate is the sum of itself, and the sum of two sums that of all
+pub fees-one : (r : FeeFrac) → HasFees r (r ∷ [])
+unfolding exactSum
+fees-one r = sym (+ℤ-idr (r .fee))
+
+pub fees-both : (a b : FeeFrac) (xs ys : List FeeFrac) → far xs + far ys < 9223372036854775808 → HasFees a ys → HasFees b xs → HasFees (sum a b) (xs ++ ys)
+fees-both a b xs ys h p q =
+    sum-exact a b (omega (arith, ap natAbs p, ap natAbs q, abs-exact (feesOf xs), abs-exact (feesOf ys)))
+    ∙ ap₂ _+ℤ_ p q ∙ +ℤ-comm (exactSum (feesOf ys)) (exactSum (feesOf xs))
+    ∙ sym (ap exactSum (map-append (λ r. r .fee) xs ys) ∙ exact-append (feesOf xs) (feesOf ys))
+
+pub sizes-one : (r : FeeFrac) → r .size < 2 ^ 64 → HasSizes r (r ∷ [])
+unfolding sumOf
+sizes-one r h = omega arith
+
+pub sizes-both : (a b : FeeFrac) (xs ys : List FeeFrac) → HasSizes a ys → HasSizes b xs → HasSizes (sum a b) (xs ++ ys)
+unfolding sum
+sizes-both a b xs ys p q =
+    let e : sumOf (sizesOf (xs ++ ys)) ≡ sumOf (sizesOf xs) + sumOf (sizesOf ys) =
+    ap sumOf (map-append (λ r. r .size) xs ys) ∙ sumOf-append (sizesOf xs) (sizesOf ys) in
+    omega arith
+
+-- both
+pub record Sums (a : FeeFrac) (own : List FeeFrac) : Type 0 where
+  pub fee : HasFees a own
+  pub size : HasSizes a own

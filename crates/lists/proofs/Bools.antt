@@ -1,7 +1,7 @@
 -- Truth values: the parts of a conjunction that holds, of a disjunction that holds or does not, an implication, and a choice by a test,
 -- which is the library's `cond`. Assumes nothing.
 use mathlib.Core.Path.{_≡_, refl, sym, ap, _∙_, subst}
-use mathlib.Core.Bool.{Bool, true, false, cond, not, _&&_, _||_, and-false}
+use mathlib.Core.Bool.{Bool, true, false, cond, not, _&&_, _||_, and-false, and-assoc}
 use mathlib.Core.Logic.{_⊎_, inl, inr}
 use lib.Dec.{T}
 
@@ -48,6 +48,10 @@ not-or false c = refl
 pub but-not : (b c : Bool) → (b && not c) ≡ not (not b || c)
 but-not true c = refl
 but-not false c = refl
+
+-- without the one and without the other
+pub without-or : (f b c : Bool) → ((f && not b) && not c) ≡ (f && not (b || c))
+without-or f b c = and-assoc f (not b) (not c) ∙ ap (λ (d : Bool). f && d) (sym (not-or b c))
 
 -- what is true unless it is false is true, and the other way
 pub is-true : (b : Bool) → (b ≡ false → b ≡ true) → b ≡ true

@@ -11,7 +11,7 @@ use lib.Dec.{eqb}
 use lib.ListN.{length, getD, length-append}
 use borrow.Author.Tests.{eq-eqb, eqb-true, not-true}
 use Rattle.lists.specs.Lists.{anyOf, allOf, elem, distinct, same}
-use Rattle.lists.proofs.Bools.{clash, and-both, or-left, or-right, or-either}
+use Rattle.lists.proofs.Bools.{clash, and-both, or-left, or-right, or-either, without-or}
 use Rattle.lists.proofs.Numbers.{flip}
 
 -- ---- two lists together
@@ -47,12 +47,7 @@ length-nil (x ∷ l) e = absurd (omega arith)
 
 -- what has f and is in neither of two lists
 pub without-append : (f : Bool) (i : ℕ) (xs ys : List ℕ) → ((f && not (elem i xs)) && not (elem i ys)) ≡ (f && not (elem i (xs ++ ys)))
-without-append f i xs ys = go f (elem i xs) (elem i ys) ∙ ap (λ (b : Bool). f && not b) (sym (elem-append i xs ys))
-  where
-    go : (f b c : Bool) → ((f && not b) && not c) ≡ (f && not (b || c))
-    go true true c = refl
-    go true false c = refl
-    go false b c = refl
+without-append f i xs ys = without-or f (elem i xs) (elem i ys) ∙ ap (λ (b : Bool). f && not b) (sym (elem-append i xs ys))
 
 -- ---- one element
 
@@ -178,6 +173,27 @@ unfolding elem anyOf
 none-any f [] h = refl
 none-any f (x ∷ xs) h =
     ap (λ (b : Bool). b || anyOf f xs) (h x (elem-head x xs)) ∙ none-any f xs (λ i e. h i (elem-tail i x xs e))
+
+-- each element has the property
+unfoldable pub Each : {A : Type 0} → (A → Type 0) → List A → Type 0
+Each P [] = Unit {0}
+Each P (x ∷ xs) = P x × Each P xs
+
+pub each-snoc : {A : Type 0} (P : A → Type 0) (xs : List A) {x : A} → Each P xs → P x → Each P (xs ++ (x ∷ []))
+unfolding Each
+each-snoc P [] p h = (h, tt)
+each-snoc P (y ∷ xs) p h = (p .0, each-snoc P xs (p .1) h)
+
+pub each-at : {A : Type 0} (P : A → Type 0) (xs : List A) (d : A) → Each P xs → (i : ℕ) → i < length xs → P (getD xs i d)
+unfolding Each
+each-at P [] d p i h = absurd (not-suc-le-zero h)
+each-at P (x ∷ xs) d p zero h = p .0
+each-at P (x ∷ xs) d p (suc i) h = each-at P xs d (p .1) i (le-of-suc-le-suc h)
+
+pub each-mem : {A : Type 0} (P : A → Type 0) (xs : List A) → Each P xs → (x : A) → List·Memᴰ x xs → P x
+unfolding Each
+each-mem P [] p x m = absurd (List·Memᴰ·not-nil m)
+each-mem P (y ∷ xs) p x m = ⊎-elim (λ e. rw e (p .0)) (λ n. each-mem P xs (p .1) x n) (List·Memᴰ·cases-cons m)
 
 -- ---- tables
 

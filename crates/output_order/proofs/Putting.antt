@@ -17,6 +17,7 @@ use Rattle.lists.specs.Lists.{elem, only}
 use Rattle.txset.specs.Sets.{positions, isPosition, mem, members, size, isEmpty, memAt}
 use Rattle.lists.proofs.Ranges.{list-below}
 use Rattle.lists.proofs.Lists.{elem-snoc}
+use Rattle.lists.proofs.Bools.{without-or}
 use Rattle.txset.proofs.Sets.{mem-position, size-without, position-and, size-most, size-more, size-in}
 use Rattle.txset.proofs.Walk.{walk-done}
 use Rattle.feeset.specs.Scan.{best, ranksAbove}
@@ -175,10 +176,7 @@ module _ {fs : List ℤ} {ss : List ℕ} {n : ℕ} {ancestors room₀ : List ℕ
     going-turn c out₀ old g = go (g .rounds) (g .enough) (g .same)
       where
         group : (a b d e : Bool) → ((a && (b && not d)) && not e) ≡ (a && (b && not (d || e)))
-        group true true true e = refl
-        group true true false e = refl
-        group true false d e = refl
-        group false b d e = refl
+        group a b d e = and-assoc a (b && not d) (not e) ∙ ap (λ (c : Bool). a && c) (without-or b d e)
 
         go : (k : ℕ) → size left ≤ k → inside fs ss n (memAt ancestors) c k (g .out) ≡ inside fs ss n (memAt ancestors) c (length c) out₀
             → Going fs ss n ancestors c out₀ old (set room len t) done' (len + 1) left'

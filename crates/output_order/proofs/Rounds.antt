@@ -1,6 +1,6 @@
 -- The chunks put out one after the other: `left` are those that are not taken yet. Assumes nothing.
 use mathlib.Core.Path.{_≡_, refl, sym, ap, ap₂, _∙_}
-use mathlib.Core.Bool.{Bool, true, false, cond, not, _&&_, _||_, and-false, and-true, and-eq-true-iff}
+use mathlib.Core.Bool.{Bool, true, false, cond, not, _&&_, and-true, and-eq-true-iff, or-comm}
 use mathlib.Core.List.{List, [], _∷_, _++_}
 use Prim.Native.Nat.{ℕ, zero, suc, _+_, _-_, _≤_, _<_}
 use native.Mathlib.Omega.{arith}
@@ -12,7 +12,7 @@ use Rattle.txset.specs.declared.TxSet.{TxSet}
 use Rattle.lists.specs.Below.{listFrom}
 use Rattle.lists.specs.Lists.{anyOf, elem, overwrite}
 use Rattle.txset.specs.Sets.{positions, isPosition, mem, members, setAt, memAt}
-use Rattle.lists.proofs.Bools.{clash}
+use Rattle.lists.proofs.Bools.{clash, without-or}
 use Rattle.lists.proofs.Ranges.{list-below}
 use Rattle.lists.proofs.Below.{elem-below}
 use Rattle.txset.proofs.Walk.{size-empty}
@@ -194,7 +194,8 @@ module _ {fs : List ℤ} {ss ancestors order room₀ : List ℕ} {all : TxSet} {
           gone = k ∷ p .gone;
           out = inside fs ss n (memAt ancestors) c (length c) (p .out);
           within = omega arith;
-          rest = λ i. less i ∙ ap (λ (b : Bool). b && not (eqb i k)) (p .rest i) ∙ group (ltb i r) (elem i (p .gone)) (eqb i k);
+          rest = λ i. less i ∙ ap (λ (b : Bool). b && not (eqb i k)) (p .rest i) ∙ without-or (ltb i r) (elem i (p .gone)) (eqb i k)
+              ∙ ap (λ (b : Bool). ltb i r && not b) (or-comm (elem i (p .gone)) (eqb i k));
           stands = put .stands;
           placed = put .puts c (p .out) room₀ (λ i. ap (λ (s : TxSet). mem s i) at ∙ p .known .chunks .sets k chosen-below i) (p .placed);
           same =
@@ -203,11 +204,6 @@ module _ {fs : List ℤ} {ss ancestors order room₀ : List ℕ} {all : TxSet} {
               ∙ ap (λ (m : ℕ). chunksOut fs ss n (memAt ancestors) cs m (p .gone) (p .out)) e
               ∙ p .same;
         }
-      where
-        group : (a b d : Bool) → ((a && not b) && not d) ≡ (a && not (d || b))
-        group true b true = and-false (not b)
-        group true b false = and-true (not b)
-        group false b d = refl
 
   -- where all is out
   over : p .out ≡ outputOrder fs ss (memAt ancestors) order → Answered fs ss (memAt ancestors) order room₀ len room

@@ -2,20 +2,21 @@
 -- twice where none did. Then what the sums of its groups are. Assumes nothing.
 use mathlib.Core.Path.{_≡_, refl, sym, ap, ap₂, _∙_}
 use mathlib.Core.Bool.{Bool, true, false, not, _&&_, _||_}
-use mathlib.Core.Logic.{⊎-elim}
-use mathlib.Core.List.{List, [], _∷_, _++_, map, map-append, reverse, reverse-cons, List·Memᴰ, List·Memᴰ·cases-cons, List·Memᴰ·not-nil}
+use mathlib.Core.List.{List, [], _∷_, _++_, map, map-append, reverse, reverse-cons, List·Memᴰ}
 use Prim.Native.Nat.{ℕ, _+_, _*_, _^_, _≤_, _<_}
 use native.Mathlib.Omega.{arith}
 use lib.Dec.{eqb}
-use lib.IntN.{ℤ, pos, negℤ, natAbs, _+ℤ_, +ℤ-idr, +ℤ-comm}
+use lib.IntN.{ℤ, pos, negℤ, natAbs}
 use lib.ListN.{length, getD, length-append, length-reverse}
 use borrow.Author.Tests.{eq-eqb, eqb-true, not-true}
 use Rattle.feefrac.specs.declared.FeeFrac.{FeeFrac}
-use Rattle.feefrac.specs.Rate.{heldSize, sum, higher, negated, rateAt}
+use Rattle.feefrac.specs.Rate.{higher, negated, rateAt}
 use Rattle.lists.proofs.Bools.{cond-where, clash, false-together, and-left, and-right}
-use Rattle.feefrac.proofs.Exact.{abs-neg, held-near, sum-exact, exactSum, exact-append, spread, spread-append, abs-exact, sumOf, sumOf-append, feeLimit, Within, within-at}
+use Rattle.feefrac.proofs.Exact.{abs-neg, held-near, spread, feeLimit, Within, within-at}
+use Rattle.feefrac.proofs.Exact.{far, far-append, Sums, fees-one, fees-both, sizes-one, sizes-both}
 use Rattle.lists.specs.Below.{bit}
 use Rattle.lists.specs.Lists.{elem, anyOf, distinct}
+use Rattle.lists.proofs.Lists.{each-mem, Each}
 use Rattle.txset.proofs.Words.{Fits}
 use Rattle.passes.specs.Pass.{Group, absorb, dependsOn, settle, alone, groupsAfter, flat, onePass, backPass, forwardPass}
 
@@ -130,94 +131,71 @@ back-same fs ss desc order =
 
 -- ---- the sums of the groups
 
--- the fees and the sizes of some members, as the pass reads them
-abbrev pub feesOf : (ℕ → FeeFrac) → List ℕ → List ℤ
-feesOf rate ts = map (λ t. rate t .fee) ts
-
-abbrev pub sizesOf : (ℕ → FeeFrac) → List ℕ → List ℕ
-sizesOf rate ts = map (λ t. rate t .size) ts
-
--- the group's fee is exactly the sum of its members' fees, and its size that of their sizes, or 2^64 - 1 where that is more
-pub record Sums (rate : ℕ → FeeFrac) (g : Group) : Type 0 where
-  pub fee : g .rate .fee ≡ exactSum (feesOf rate (g .txs))
-  pub size : g .rate .size ≡ heldSize (sumOf (sizesOf rate (g .txs)))
+-- the group's feerate is the sum of its members' feerates
+abbrev pub GroupSums : (ℕ → FeeFrac) → Group → Type 0
+GroupSums rate g = Sums (g .rate) (map rate (g .txs))
 
 module _ (rate : ℕ → FeeFrac) where
-  -- how far the fees are from zero together
-  abbrev far : List ℕ → ℕ
-  far ts = spread (feesOf rate ts)
+  -- how far the fees of some members are from zero together
+  abbrev apart : List ℕ → ℕ
+  apart ts = far (map rate ts)
 
-  far-append : (xs ys : List ℕ) → far (xs ++ ys) ≡ far xs + far ys
-  far-append xs ys = ap spread (map-append (λ t. rate t .fee) xs ys) ∙ spread-append (feesOf rate xs) (feesOf rate ys)
+  apart-append : (xs ys : List ℕ) → apart (xs ++ ys) ≡ apart xs + apart ys
+  apart-append xs ys = ap far (map-append rate xs ys) ∙ far-append (map rate xs) (map rate ys)
 
   -- a member of its own
-  pub alone-sums : (t : ℕ) → rate t .size < 2 ^ 64 → Sums rate (alone rate t)
-  unfolding exactSum sumOf
-  alone-sums t h = record { fee = sym (+ℤ-idr (rate t .fee)); size = omega arith }
+  pub alone-sums : (t : ℕ) → rate t .size < 2 ^ 64 → GroupSums rate (alone rate t)
+  alone-sums t h = record { fee = fees-one (rate t); size = sizes-one (rate t) h }
 
   -- and two groups as one
-  pub absorb-sums : (g cur : Group) → spread (feesOf rate (g .txs)) + spread (feesOf rate (cur .txs)) < 9223372036854775808
-      → Sums rate g → Sums rate cur → Sums rate (absorb g cur)
-  unfolding sum
+  pub absorb-sums : (g cur : Group) → far (map rate (g .txs)) + far (map rate (cur .txs)) < 9223372036854775808
+      → GroupSums rate g → GroupSums rate cur → GroupSums rate (absorb g cur)
   absorb-sums g cur h p q =
-      let xs = g .txs in
-      let ys = cur .txs in
-      let e : sumOf (sizesOf rate (xs ++ ys)) ≡ sumOf (sizesOf rate xs) + sumOf (sizesOf rate ys) =
-      ap sumOf (map-append (λ t. rate t .size) xs ys) ∙ sumOf-append (sizesOf rate xs) (sizesOf rate ys) in
-      record {
-        fee =
-            sum-exact (cur .rate) (g .rate)
-            (omega (arith, ap natAbs (p .fee), ap natAbs (q .fee), abs-exact (feesOf rate xs), abs-exact (feesOf rate ys)))
-            ∙ ap₂ _+ℤ_ (q .fee) (p .fee) ∙ +ℤ-comm (exactSum (feesOf rate ys)) (exactSum (feesOf rate xs))
-            ∙ sym (ap exactSum (map-append (λ t. rate t .fee) xs ys) ∙ exact-append (feesOf rate xs) (feesOf rate ys));
-        size = omega (arith, p .size, q .size);
-      }
+      rw (map-append rate (g .txs) (cur .txs))
+      (record {
+        fee = fees-both (cur .rate) (g .rate) (map rate (g .txs)) (map rate (cur .txs)) h (q .fee) (p .fee);
+        size = sizes-both (cur .rate) (g .rate) (map rate (g .txs)) (map rate (cur .txs)) (q .size) (p .size);
+      })
 
   -- each group has them
-  AllSums : List Group → Type 0
-  AllSums [] = Unit {0}
-  AllSums (g ∷ gs) = Sums rate g × AllSums gs
+  abbrev AllSums : List Group → Type 0
+  AllSums = Each (GroupSums rate)
 
-  all-at : (gs : List Group) → AllSums gs → (g : Group) → List·Memᴰ g gs → Sums rate g
-  unfolding AllSums
-  all-at [] p g m = absurd (List·Memᴰ·not-nil m)
-  all-at (x ∷ xs) p g m = ⊎-elim (λ e. rw e (p .0)) (λ n. all-at xs (p .1) g n) (List·Memᴰ·cases-cons m)
-
-  settle-sums : (dep : ℕ → ℕ → Bool) (cur : Group) (gs : List Group) → far (flat gs) + far (cur .txs) < 9223372036854775808
-      → Sums rate cur → AllSums gs → AllSums (settle dep cur gs)
-  unfolding AllSums flat settle
+  settle-sums : (dep : ℕ → ℕ → Bool) (cur : Group) (gs : List Group) → apart (flat gs) + apart (cur .txs) < 9223372036854775808
+      → GroupSums rate cur → AllSums gs → AllSums (settle dep cur gs)
+  unfolding Each flat settle
   settle-sums dep cur [] h p q = (p, tt)
   settle-sums dep cur (g ∷ gs) h p q =
       cond-where AllSums (higher (cur .rate) (g .rate))
       (λ _. cond-where AllSums (dependsOn dep cur g)
-      (λ _. settle-sums dep (absorb g cur) gs (omega (arith, far-append (flat gs) (g .txs), far-append (g .txs) (cur .txs)))
-      (absorb-sums g cur (omega (arith, far-append (flat gs) (g .txs))) (q .0) p) (q .1))
-      (λ _. (q .0, settle-sums dep cur gs (omega (arith, far-append (flat gs) (g .txs))) p (q .1))))
+      (λ _. settle-sums dep (absorb g cur) gs (omega (arith, apart-append (flat gs) (g .txs), apart-append (g .txs) (cur .txs)))
+      (absorb-sums g cur (omega (arith, apart-append (flat gs) (g .txs))) (q .0) p) (q .1))
+      (λ _. (q .0, settle-sums dep cur gs (omega (arith, apart-append (flat gs) (g .txs))) p (q .1))))
       (λ _. (p, q))
 
   module _ (fit : (t : ℕ) → rate t .size < 2 ^ 64) where
-    after-sums : (dep : ℕ → ℕ → Bool) (gs : List Group) (ts : List ℕ) → far (flat gs) + far ts < 9223372036854775808 → AllSums gs
+    after-sums : (dep : ℕ → ℕ → Bool) (gs : List Group) (ts : List ℕ) → apart (flat gs) + apart ts < 9223372036854775808 → AllSums gs
         → AllSums (groupsAfter rate dep gs ts)
     unfolding groupsAfter spread
     after-sums dep gs [] h p = p
     after-sums dep gs (t ∷ ts) h p =
         after-sums dep (settle dep (alone rate t) gs) ts
-        (omega (arith, settle-keeps far refl far-append dep (alone rate t) gs))
+        (omega (arith, settle-keeps apart refl apart-append dep (alone rate t) gs))
         (settle-sums dep (alone rate t) gs (omega arith) (alone-sums t (fit t)) p)
 
     -- so every group of a pass, and after each member of it, where the fees, signs aside, stay below 2^63 together
-    pub pass-exact : (dep : ℕ → ℕ → Bool) (order : List ℕ) → spread (feesOf rate order) < 9223372036854775808
-        → (g : Group) → List·Memᴰ g (groupsAfter rate dep [] order) → Sums rate g
-    unfolding AllSums flat spread
-    pass-exact dep order h = all-at (groupsAfter rate dep [] order) (after-sums dep [] order (omega arith) tt)
+    pub pass-exact : (dep : ℕ → ℕ → Bool) (order : List ℕ) → far (map rate order) < 9223372036854775808
+        → (g : Group) → List·Memᴰ g (groupsAfter rate dep [] order) → GroupSums rate g
+    unfolding Each flat spread
+    pass-exact dep order h = each-mem (GroupSums rate) (groupsAfter rate dep [] order) (after-sums dep [] order (omega arith) tt)
 
     -- and for at most 64 members with fees within the limit
     pub pass-sums : (dep : ℕ → ℕ → Bool) (order : List ℕ) → length order ≤ 64 → ((t : ℕ) → natAbs (rate t .fee) ≤ feeLimit)
-        → (g : Group) → List·Memᴰ g (groupsAfter rate dep [] order) → Sums rate g
+        → (g : Group) → List·Memᴰ g (groupsAfter rate dep [] order) → GroupSums rate g
     unfolding spread
     pass-sums dep order few near = pass-exact dep order (omega (arith, near-far order))
       where
-        near-far : (ts : List ℕ) → spread (feesOf rate ts) ≤ feeLimit * length ts
+        near-far : (ts : List ℕ) → far (map rate ts) ≤ feeLimit * length ts
         near-far [] = omega arith
         near-far (t ∷ ts) = omega (arith, near t, near-far ts)
 
@@ -231,14 +209,14 @@ module _ (fs : List ℤ) (ss : List ℕ) (within : Within fs) (fits : Fits ss) w
 
   -- every group of the forward pass
   pub forward-sums : (anc : ℕ → ℕ → Bool) (order : List ℕ) → length order ≤ 64
-      → (g : Group) → List·Memᴰ g (groupsAfter (rateAt fs ss) anc [] order) → Sums (rateAt fs ss) g
+      → (g : Group) → List·Memᴰ g (groupsAfter (rateAt fs ss) anc [] order) → GroupSums (rateAt fs ss) g
   unfolding rateAt
   forward-sums anc order few = pass-sums (rateAt fs ss) fits anc order few (within-at fs within)
 
   -- and of the one from the back, over the negated fees
   pub back-sums : (desc : ℕ → ℕ → Bool) (order : List ℕ) → length order ≤ 64
       → (let rate : ℕ → FeeFrac = λ i. negated (rateAt fs ss i) in
-      (g : Group) → List·Memᴰ g (groupsAfter rate desc [] (reverse order)) → Sums rate g)
+      (g : Group) → List·Memᴰ g (groupsAfter rate desc [] (reverse order)) → GroupSums rate g)
   unfolding negated rateAt
   back-sums desc order few =
       pass-sums (λ i. negated (rateAt fs ss i)) fit desc (reverse order) (omega (arith, length-reverse order))
