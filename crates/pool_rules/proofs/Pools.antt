@@ -9,19 +9,18 @@ use native.Mathlib.Nat.{add-zero, zero-add}
 use native.Mathlib.Omega.{arith}
 use lib.Dec.{eqb}
 use lib.ListN.{length, getD, List·getD-eq-default}
-use lib.Seq.{ext-getD}
 use Rattle.lists.proofs.Bools.{cond-where}
 use Rattle.lists.proofs.Numbers.{lt-or-ge}
 use Rattle.slotsets.specs.SlotSets.{none, setOf}
 use Rattle.slotsets.proofs.SlotSets.{set-long}
-use Rattle.pool_table.specs.declared.Limits.{Limits}
 use Rattle.pool_table.specs.declared.Entry.{Entry}
 use Rattle.pool_table.specs.declared.Side.the-variants.{Children}
 use Rattle.pool_table.specs.Pool.{Slot, Pool, free, slotAt, slotCount}
 use Rattle.pool_table.specs.Words.{poolOf}
-use Rattle.pool_table.specs.Changes.{withEntry, withLinks, withLink, freeSlots, made}
+use Rattle.pool_table.specs.Changes.{withEntry, withLinks, withLink}
 use Rattle.pool_table.proofs.Rows.{Whole, whole-free, whole-slot}
 use Rattle.pool_table.proofs.Theorems.{Wholes}
+use Rattle.pool_table.proofs.Pools.{whole-made}
 use Rattle.pool_rules.specs.Module8.{lowestFree, isListed, eachFrom, withSlots, added, removed, costSet, cleared}
 
 -- ---- slots made anew
@@ -48,14 +47,6 @@ module _ (p : Pool) (n : ℕ) (f : ℕ → Slot → Slot) where
   unfolding withSlots slotAt
   slot-with s l = each-at f 0 (p .slots) s l ∙ ap (λ (k : ℕ). f k (getD (p .slots) s free)) (zero-add s)
 
--- two pools that agree in each of their parts are one
-pub pool-ext : (p q : Pool) → p .limits ≡ q .limits → p .total ≡ q .total → slotCount p ≡ slotCount q
-    → ((s : ℕ) → s < slotCount p → slotAt p s ≡ slotAt q s) → p ≡ q
-unfolding slotAt
-pool-ext p q l t n h =
-    let e : p .slots ≡ q .slots = ext-getD free (p .slots) (q .slots) n h in
-    λ i. record { limits = l i; total = t i; slots = e i }
-
 -- ---- both sets of each slot have their words
 
 pub whole-pool : (t : List ℕ) → Wholes (poolOf t .slots)
@@ -71,16 +62,6 @@ whole-with p n f w h i =
     (λ (l : slotCount p ≤ i).
     subst Whole (sym (List·getD-eq-default (withSlots p n f .slots) free (omega (arith, count-with p n f)))) whole-free)
     (lt-or-ge i (slotCount p))
-
-free-at : (k i : ℕ) → getD (freeSlots k) i free ≡ free
-unfolding freeSlots
-free-at zero i = refl
-free-at (suc k) zero = refl
-free-at (suc k) (suc i) = free-at k i
-
-pub whole-made : (l : Limits) (n : ℕ) → Wholes (made l n .slots)
-unfolding made
-whole-made l n i = subst Whole (sym (free-at n i)) whole-free
 
 module _ (p : Pool) (w : Wholes (p .slots)) where
   pub whole-added : (e : Entry) (listed : List ℕ) → Wholes (added p e listed .slots)

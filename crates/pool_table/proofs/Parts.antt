@@ -2,11 +2,11 @@
 -- Assumes nothing.
 use mathlib.Core.Path.{_≡_, refl, sym, ap, _∙_, subst}
 use mathlib.Core.List.{List, _∷_, _++_}
-use Prim.Native.Nat.{ℕ, zero, suc, _+_, _<_}
+use Prim.Native.Nat.{ℕ, zero, suc, _+_, _≤_, _<_}
 use native.Mathlib.Nat.{add-zero, suc-add, zero-add}
 use native.Mathlib.Omega.{arith}
-use lib.ListN.{length, getD, replicate}
-use lib.Seq.{ext-getD}
+use lib.ListN.{length, getD, take, drop, replicate, length-take, length-drop}
+use lib.Seq.{ext-getD, getD-take, getD-drop}
 use Rattle.slotsets.specs.SlotSets.{wordsFrom}
 use Rattle.slotsets.proofs.SlotSets.{length-from, getD-from}
 
@@ -37,3 +37,12 @@ part-ext t u k at b h =
     (λ i l.
     let m : i < k = subst (λ (n : ℕ). i < n) (length-from t k at) l in
     getD-from t k at i m ∙ h i m ∙ sym (getD-from u k b i m))
+
+-- a part that is lent is the part that is read
+pub part-take : (t : List ℕ) (k at : ℕ) → at + k ≤ length t → take k (drop at t) ≡ wordsFrom t k at
+part-take t k at h =
+    let e : length (take k (drop at t)) ≡ k = simp (length-take, length-drop) (omega arith) in
+    ext-getD 0 (take k (drop at t)) (wordsFrom t k at) (e ∙ sym (length-from t k at))
+    (λ i l.
+    let m : i < k = subst (λ (n : ℕ). i < n) e l in
+    getD-take k (drop at t) i 0 m ∙ getD-drop at t i 0 ∙ sym (getD-from t k at i m))

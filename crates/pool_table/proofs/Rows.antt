@@ -2,12 +2,12 @@
 use mathlib.Core.Path.{_≡_, refl, sym, ap, ap₂, _∙_, subst}
 use mathlib.Core.Logic.{⊎-elim}
 use mathlib.Core.Bool.{true, false}
-use mathlib.Core.List.{List, [], _∷_, _++_}
-use Prim.Native.Nat.{ℕ, zero, suc, _+_, _-_, _*_, _/_, _≤_, _<_}
+use mathlib.Core.List.{List, _++_}
+use Prim.Native.Nat.{ℕ, zero, suc, _+_, _-_, _/_, _≤_, _<_}
 use native.Mathlib.Nat.{add-zero}
 use native.Mathlib.Numerals.{towards-suc}
 use native.Mathlib.Omega.{arith}
-use lib.Dec.{lit<, eqb}
+use lib.Dec.{lit<, lit≤, eqb}
 use lib.ListN.{length, getD, replicate, length-append, List·getD-append, List·getD-eq-default}
 use lib.Seq.{ext-getD, getD-append-add}
 use Rattle.lists.specs.Lists.{allOf}
@@ -107,7 +107,7 @@ length-side Parents x w = w .parents
 length-side Children x w = w .children
 
 -- the words of an entry come before those of the sets, and there are as many as a row has
-length-entry : (e : Entry) → length (entryWords e) ≡ parentsAt
+pub length-entry : (e : Entry) → length (entryWords e) ≡ parentsAt
 unfolding entryWords
 length-entry e = refl
 
@@ -121,6 +121,10 @@ length-words x w =
 pub side-within : (side : Side) (j : ℕ) → j < setWords → sideAt side + j < row
 side-within Parents j l = omega arith
 side-within Children j l = omega arith
+
+pub side-end : (side : Side) → sideAt side + setWords ≤ row
+side-end Parents = lit≤ tt
+side-end Children = lit≤ tt
 
 -- word j of a side is word `sideAt side + j` of the slot
 pub side-at : (side : Side) (x : Slot) (j : ℕ) → Whole x → j < setWords → getD (slotWords x) (sideAt side + j) 0 ≡ getD (sideOf side x) j 0
@@ -146,9 +150,13 @@ side-free Parents j = ap (λ (ws : List ℕ). getD ws j 0) none-zeros ∙ zeros-
 side-free Children j = ap (λ (ws : List ℕ). getD ws j 0) none-zeros ∙ zeros-at setWords j
 
 -- and nothing anywhere
+pub free-zeros : slotWords free ≡ replicate row 0
+unfolding slotWords entryWords setOf wordsOf wordOf
+free-zeros = refl
+
 pub zeroed-free : allOf (eqb 0) (slotWords free) ≡ true
-unfolding allOf slotWords entryWords setOf wordsOf wordOf
-zeroed-free = refl
+unfolding allOf
+zeroed-free = ap (allOf (eqb 0)) free-zeros
 
 -- ---- a slot is its words
 

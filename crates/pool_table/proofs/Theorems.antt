@@ -1,20 +1,18 @@
 -- What a table means and the table that means it are inverse to each other (specs/Words.antt), and a changed table is one table
 -- (specs/Changes.antt). Assumes nothing.
-use mathlib.Core.Path.{_≡_, refl, sym, ap, ap₂, _∙_, subst}
+use mathlib.Core.Path.{_≡_, refl, sym, ap, ap₂, _∙_}
 use mathlib.Core.Bool.{Bool, true, false, _&&_}
 use mathlib.Core.List.{List, [], _∷_, _++_, append-assoc}
-use Prim.Native.Nat.{ℕ, zero, suc, _+_, _*_, _≤_, _<_}
+use Prim.Native.Nat.{ℕ, zero, suc, _+_, _*_}
 use native.Mathlib.Omega.{arith}
 use lib.Dec.{eqb, leb}
 use lib.ListN.{length, getD, length-append, List·getD-append}
-use lib.Seq.{ext-getD, getD-append-add}
+use lib.Seq.{getD-append-add}
 use borrow.Author.Tests.{eqb-true}
 use Rattle.lists.proofs.Bools.{and-left}
 use Rattle.slotsets.specs.SlotSets.{capacity, wordsFrom}
-use Rattle.slotsets.proofs.SlotSets.{length-from, getD-from}
-use Rattle.pool_table.specs.declared.Limits.{Limits}
-use Rattle.pool_table.specs.Pool.{Slot, Pool, free, slotAt, slotCount}
-use Rattle.pool_table.specs.Words.{header, row, rowAt, slotsIn, isLegal, slotIn, slotsFrom, limitsIn, poolOf, slotWords, rowsOf, tableOf}
+use Rattle.pool_table.specs.Pool.{Slot, Pool, free, slotCount}
+use Rattle.pool_table.specs.Words.{header, row, rowAt, slotsIn, isLegal, slotsFrom, limitsIn, poolOf, slotWords, rowsOf, tableOf}
 use Rattle.pool_table.specs.Changes.{Becomes}
 use Rattle.pool_table.proofs.Parts.{part-split, part-all}
 use Rattle.pool_table.proofs.Rows.{Whole, slot-words, slot-is, length-words}

@@ -1,7 +1,7 @@
 -- A pool with one thing changed, and what it is for a table to be changed so. Assumes nothing.
 use Prim.Native.Nat.{ℕ, zero, suc}
 use mathlib.Core.Path.{_≡_}
-use mathlib.Core.Bool.{Bool, true, false}
+use mathlib.Core.Bool.{true, false}
 use mathlib.Core.List.{List, [], _∷_}
 use lib.ListN.{length, set}
 use Rattle.slotsets.specs.SlotSets.{plus, minus}
@@ -9,7 +9,7 @@ use Rattle.pool_table.specs.declared.Limits.{Limits}
 use Rattle.pool_table.specs.declared.Entry.{Entry}
 use Rattle.pool_table.specs.declared.Side.{Side}
 use Rattle.pool_table.specs.declared.Side.the-variants.{Parents, Children}
-use Rattle.pool_table.specs.Pool.{Slot, Pool, free, slotAt, slotCount}
+use Rattle.pool_table.specs.Pool.{Slot, Pool, free, slotAt}
 use Rattle.pool_table.specs.Words.{isLegal, poolOf}
 
 -- one slot changed; past the last slot, nothing

@@ -6,9 +6,8 @@ use mathlib.Core.Bool.{Bool, not}
 use mathlib.Core.List.{List}
 use lib.Dec.{eqb}
 use lib.ListN.{length, getD}
-use Rattle.lists.specs.Below.{anyFrom, countFrom, firstFrom}
+use Rattle.lists.specs.Below.{countFrom}
 use Rattle.txids.specs.declared.Txid.{Txid}
-use Rattle.weights.specs.declared.RawWeight.{RawWeight}
 use Rattle.slotsets.specs.SlotSets.{none}
 use Rattle.pool_table.specs.declared.Limits.{Limits}
 use Rattle.pool_table.specs.declared.Entry.{Entry}

@@ -1,5 +1,4 @@
 -- Document 01, "Numbers and refusals": the ranges of what a pool is given and holds. Assumes nothing.
-use Prim.Native.Nat.{ℕ}
 use mathlib.Core.Bool.{Bool, _&&_}
 use lib.Dec.{leb}
 use Rattle.pool_table.specs.declared.Limits.{Limits}

@@ -12,7 +12,7 @@ use Rattle.txids.specs.Txids.{sameTxid}
 use Rattle.weights.specs.Weights.{virtualSize}
 use Rattle.ways.specs.Ways.{isCyclic}
 use Rattle.slotsets.specs.SlotSets.{capacity}
-use Rattle.pool_table.specs.Pool.{Slot, Pool, slotAt, slotCount, occupied, weightAt}
+use Rattle.pool_table.specs.Pool.{Pool, slotAt, slotCount, occupied}
 use Rattle.pool_table.specs.Words.{isLegal, slotWords, poolOf}
 use Rattle.pool_table.specs.Ranges.{limitsInRange, entryInRange}
 use Rattle.pool_table.specs.Links.{isParent, isChild, inCluster, countOf, weightOf}

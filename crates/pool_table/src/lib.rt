@@ -2,15 +2,17 @@
 // operator's whole state is this one block of memory: it is lent, copied or stored as it is. Nothing outside this crate knows an offset;
 // what the words mean is the record `Pool` of specs/, and everything above speaks of that record alone.
 ghost use mathlib.Core.Path.{_≡_};
-ghost use Prim.Native.Nat.{_<_, _≤_};
-ghost use lib.ListN.{length, getD};
-ghost use lib.Dec.{eqb};
+ghost use mathlib.Core.Bool.{cond, _&&_};
+ghost use Prim.Native.Nat.{_<_};
+ghost use lib.ListN.{length, getD, replicate};
+ghost use lib.Dec.{eqb, ltb};
 ghost use Rattle.lists.specs.Lists.{allOf};
 ghost use Rattle.txset.specs.Sets.{hasIn};
-ghost use Rattle.pool_table.specs.Pool.{slotAt, slotCount, isOccupied, occupied, free};
-ghost use Rattle.pool_table.specs.Words.{isLegal, slotsIn, poolOf, slotWords, row, sideAt};
+ghost use Rattle.pool_table.specs.Pool.{slotAt, slotCount, occupied, free};
+ghost use Rattle.pool_table.specs.Words.{isLegal, poolOf, entryWords, slotWords, row, rowAt, parentsAt, sideAt};
 ghost use Rattle.pool_table.specs.Ranges.{limitsInRange, entryInRange};
 ghost use Rattle.pool_table.specs.Links.{sideOf};
+ghost use Rattle.pool_table.specs.Changes.{Becomes, changed, withEntry, withLink, unlinked, withTotal, made};
 use slotsets::CAPACITY;
 use slotsets::SET_WORDS;
 use txids::Txid;
@@ -245,4 +247,116 @@ pub fn names(table: &[u64], side: Side, s: usize, b: usize) -> bool
     ensures { λ r. ⌜ r ≡ hasIn (sideOf side (slotAt (poolOf (now (table .entry))) s)) b ⌝ }
 {
     link_word(table, side, s, b / 64) >> (b % 64) & 1 == 1
+}
+
+// Writes an entry's words: the start of a row.
+fn write_entry(words: &mut [u64], e: Entry)
+    requires { ⌜ length (now words) ≡ parentsAt ⌝ }
+    ensures { λ _. ⌜ now (words .exit) ≡ entryWords e ⌝ }
+{
+    let id = e.txid;
+    words[0] = id.w0;
+    words[1] = id.w1;
+    words[2] = id.w2;
+    words[3] = id.w3;
+    words[FEE] = e.fee;
+    words[RAW] = e.weight.0;
+    words[COST] = e.cost;
+}
+
+// Makes every word 0.
+fn clear(words: &mut [u64])
+    ensures { λ _. ⌜ now (words .exit) ≡ replicate (length (now (words .entry))) 0 ⌝ }
+{
+    let mut i: usize = 0;
+    while i < words.len() {
+        words[i] = 0;
+        i += 1;
+    }
+}
+
+// Where the row of a slot starts, in a table of a legal length; 0, where no row starts, if there is no such slot. Every write of a slot asks
+// this first: a table that is not of a legal length stays as it is, and so does one that has no such slot.
+fn row_of(table: &[u64], s: usize) -> usize
+    ensures { λ r. ⌜ r ≡ cond (isLegal (length (now (table .entry))) && ltb s (slotCount (poolOf (now (table .entry))))) (rowAt s) 0 ⌝ }
+{
+    if !is_legal(table) {
+        return 0;
+    }
+    if slots(table) <= s {
+        return 0;
+    }
+    HEADER + s * ROW
+}
+
+pub fn put_entry(table: &mut [u64], s: usize, e: Entry)
+    ensures { λ _. ⌜ Becomes (changed s (withEntry e)) (now (table .entry)) (now (table .exit)) ⌝ }
+{
+    let at = row_of(table, s);
+    if at == 0 {
+        return;
+    }
+    let end = at + PARENTS;
+    write_entry(&mut table[at..end], e);
+}
+
+pub fn put_total(table: &mut [u64], weight: u64)
+    ensures { λ _. ⌜ Becomes (withTotal weight) (now (table .entry)) (now (table .exit)) ⌝ }
+{
+    if !is_legal(table) {
+        return;
+    }
+    table[TOTAL] = weight;
+}
+
+// One link more; a slot that no set can hold is not linked.
+pub fn link(table: &mut [u64], side: Side, s: usize, b: usize)
+    ensures { λ _. ⌜ Becomes (changed s (withLink side b)) (now (table .entry)) (now (table .exit)) ⌝ }
+{
+    let at = row_of(table, s);
+    if at == 0 {
+        return;
+    }
+    let from = at + offset(side);
+    let end = from + SET_WORDS;
+    slotsets::insert(&mut table[from..end], b);
+}
+
+// Takes slot b out of both sets of slot s.
+pub fn unlink(table: &mut [u64], s: usize, b: usize)
+    ensures { λ _. ⌜ Becomes (changed s (unlinked b)) (now (table .entry)) (now (table .exit)) ⌝ }
+{
+    let at = row_of(table, s);
+    if at == 0 {
+        return;
+    }
+    let from = at + PARENTS;
+    let mid = from + SET_WORDS;
+    let end = mid + SET_WORDS;
+    slotsets::remove(&mut table[from..mid], b);
+    slotsets::remove(&mut table[mid..end], b);
+}
+
+pub fn free_slot(table: &mut [u64], s: usize)
+    ensures { λ _. ⌜ Becomes (changed s (λ x. free)) (now (table .entry)) (now (table .exit)) ⌝ }
+{
+    let at = row_of(table, s);
+    if at == 0 {
+        return;
+    }
+    let end = at + ROW;
+    clear(&mut table[at..end]);
+}
+
+// Every slot free, and the limits put anew.
+pub fn make_empty(table: &mut [u64], limits: Limits)
+    ensures { λ _. ⌜ Becomes (λ p. made limits (slotCount p)) (now (table .entry)) (now (table .exit)) ⌝ }
+{
+    if !is_legal(table) {
+        return;
+    }
+    clear(table);
+    table[0] = limits.count;
+    table[1] = limits.size;
+    table[2] = limits.bytes_per_sigop;
 }

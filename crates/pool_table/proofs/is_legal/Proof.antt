@@ -1,5 +1,6 @@
 use mathlib.Core.Path.{_≡_, sym, _∙_}
 use mathlib.Core.Bool.{and-false, and-true}
+use native.Mathlib.Omega.{arith}
 use lib.ListN.{length}
 use borrow.Author.Tests.{lt-leb, le-leb}
 use borrow.Author.Needs.{needs}
@@ -23,7 +24,7 @@ returns-2 c =
     let t = c .before .before .before .before .args .table .now in
     let n = c .before .before .slots .result in
     let e : slotsIn (length t) ≡ n = sym (c .before .before .slots .ensures ∙ slot-count t) in
-    rw (e, le-leb 1 n (c .before .if1 .left), lt-leb n capacity (c .if2 .taken), and-false)
+    rw (e, le-leb 1 n (c .before .if1 .left), lt-leb n capacity (omega arith), and-false)
 
 returns-3 : tie.Need-returns-3
 unfolding isLegal
@@ -31,7 +32,7 @@ returns-3 c =
     let t = c .before .before .before .before .args .table .now in
     let n = c .before .before .slots .result in
     let e : slotsIn (length t) ≡ n = sym (c .before .before .slots .ensures ∙ slot-count t) in
-    rw (e, le-leb 1 n (c .before .if1 .left), le-leb n capacity (c .if2 .left), and-true)
+    rw (e, le-leb 1 n (c .before .if1 .left), le-leb n capacity (omega arith), and-true)
 
 pub is-legal-spec : {M : Type 1} → statement M
 is-legal-spec = tie.close (tie.spec (λ c κs. search needs) returns returns-2 (λ c. search needs) (λ c. search needs) returns-3)

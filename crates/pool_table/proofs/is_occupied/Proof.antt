@@ -1,5 +1,5 @@
 use mathlib.Core.Bool.{Bool, not}
-use mathlib.Core.Path.{_≡_, ap}
+use mathlib.Core.Path.{ap}
 use lib.Dec.{eqb}
 use borrow.Author.Needs.{needs}
 use Rattle.weights.specs.declared.RawWeight.{RawWeight}

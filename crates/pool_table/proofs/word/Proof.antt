@@ -1,6 +1,5 @@
 use mathlib.Core.Path.{sym}
 use native.Mathlib.Omega.{arith}
-use borrow.Author.Needs.{needs}
 use Rattle.pool_table.proofs.Rows.{row-within, word-at}
 use Rattle.pool_table.proofs.word.Statement.{statement}
 use Rattle.pool_table.proofs.word.Tie as tie

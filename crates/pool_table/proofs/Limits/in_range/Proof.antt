@@ -1,4 +1,3 @@
-use mathlib.Core.Path.{sym}
 use borrow.Author.Tests.{lt-leb, le-leb}
 use Rattle.pool_table.specs.Ranges.{limitsInRange}
 use Rattle.pool_table.proofs.Limits.in_range.Statement.{statement}

@@ -1,4 +1,3 @@
-use mathlib.Core.Path.{_≡_}
 use borrow.Author.Needs.{needs}
 use Rattle.pool_table.specs.Words.{poolOf, limitsIn}
 use Rattle.pool_table.proofs.Limits.of.Statement.{statement}
