@@ -6,11 +6,11 @@ use mathlib.Core.Logic.{_⊎_, inl, inr, ⊎-elim}
 use mathlib.Core.List.{List, [], _∷_}
 use Prim.Native.Nat.{ℕ, zero, suc, _+_, _-_, _*_, _≤_, _<_}
 use native.Mathlib.Omega.{arith}
-use lib.Dec.{eqb, ltb, leb}
+use lib.Dec.{eqb, ltb}
 use lib.ListN.{length, replicate}
-use borrow.Author.Tests.{lt-ltb, ltb-true, ne-eqb, eqb-true, eqb-false, leb-true, not-true}
+use borrow.Author.Tests.{lt-ltb, ltb-true, ne-eqb, eqb-true, eqb-false, not-true}
 use Rattle.lists.specs.Below.{bit, anyFrom, countFrom, listFrom}
-use Rattle.lists.proofs.Bools.{clash, and-both, and-right, or-either, or-left, or-right, not-or}
+use Rattle.lists.proofs.Bools.{clash, and-both, or-either, or-left, or-right, not-or}
 use Rattle.lists.proofs.Below.{some, any-at, at-none, any-list, count-list, count-without}
 use Rattle.lists.proofs.Ranges.{count-le}
 use Rattle.ways.specs.Ways.{Way, step, further, isCyclic, Bounded}
@@ -22,10 +22,10 @@ use Rattle.slotsets.specs.SlotSets.{capacity, setWords, span, lowestIn}
 use Rattle.slotsets.proofs.Words.{lowest-has, lowest-past}
 use Rattle.pool_table.specs.declared.Side.the-variants.{Parents, Children}
 use Rattle.pool_table.specs.Pool.{Pool, slotAt, slotCount}
-use Rattle.pool_table.specs.Words.{rowAt, slotsIn, isLegal, poolOf}
+use Rattle.pool_table.specs.Words.{isLegal, poolOf}
 use Rattle.pool_table.specs.Links.{isParent}
 use Rattle.pool_table.specs.WellFormed.{linksMutual, acyclic}
-use Rattle.pool_table.proofs.Rows.{slot-count}
+use Rattle.pool_table.proofs.Legal.{few-slots}
 use Rattle.pool_links.specs.Steps.{isReady}
 use Rattle.pool_links.proofs.Mutual.{refuted, parent-parts, is-parent, named-in, parent-child}
 use Rattle.pool_links.proofs.Ready.{ready-not, ready-parent, waits-for}
@@ -54,11 +54,7 @@ pub record Given (t : List ℕ) : Type 0 where
   pub links : linksMutual (poolOf t) ≡ true
 
 pub given-by : (t : List ℕ) → isLegal (length t) ≡ true → linksMutual (poolOf t) ≡ true → Given t
-unfolding isLegal
-given-by t h links =
-    let n = slotsIn (length t) in
-    let within = and-right (eqb (rowAt n) (length t)) (leb 1 n && leb n capacity) h in
-    record { fits = omega (arith, slot-count t, leb-true n capacity (and-right (leb 1 n) (leb n capacity) within)); links = links }
+given-by t h links = record { fits = few-slots t h; links = links }
 
 -- a slot that is not done
 abbrev pub waiting : List ℕ → ℕ → Bool

@@ -1,22 +1,18 @@
 -- The walk of `rows_stand` over the rows, one law for each event. Assumes nothing.
 use mathlib.Core.Path.{_≡_, refl, sym, ap, ap₂, _∙_}
-use mathlib.Core.Bool.{Bool, true, false, not, cond, _&&_, _||_, and-true, and-false}
+use mathlib.Core.Bool.{Bool, true, false, not, cond, _&&_, _||_}
 use Prim.Native.Nat.{ℕ, zero, suc, _+_, _*_, _≤_, _<_}
 use native.Mathlib.Nat.{zero-add, add-zero, suc-add, add-suc, add-assoc}
 use native.Mathlib.Omega.{arith}
-use mathlib.Core.List.{List}
 use lib.Dec.{eqb, leb}
-use lib.ListN.{length}
 use borrow.Author.Tests.{leb-true, eqb-true, not-false}
 use Rattle.lists.specs.Below.{allFrom}
 use Rattle.lists.specs.Lists.{allOf}
-use Rattle.lists.proofs.Below.{all-split, all-at, at-all}
+use Rattle.lists.proofs.Below.{all-split, all-at}
 use Rattle.lists.proofs.Bools.{and-right, clash}
 use Rattle.lists.proofs.Numbers.{flip}
 use Rattle.pool_table.specs.Pool.{Pool, slotAt, slotCount, isOccupied, occupied, weightAt}
-use Rattle.slotsets.specs.SlotSets.{capacity}
-use Rattle.pool_table.specs.Words.{slotWords, rowAt, slotsIn, isLegal, poolOf}
-use Rattle.pool_table.proofs.Rows.{slot-count}
+use Rattle.pool_table.specs.Words.{slotWords}
 use Rattle.pool_table.specs.Ranges.{entryInRange}
 use Rattle.pool_table.specs.Links.{sumFrom, weightOf}
 use Rattle.pool_table.specs.WellFormed.{numbersInRange, totalIsSum, freeZeroed}
@@ -140,9 +136,3 @@ unfolding numbersInRange freeZeroed totalIsSum weightOf
 scan-done p sum h =
     middle (allFrom (inRanges p) (slotCount p) 0) (totalIsSum p) (allFrom (zeroed p) (slotCount p) 0) (sym (parts p (slotCount p)) ∙ h .stand)
     ∙ flip (p .total) (sumFrom (weightAt p) (λ i. true) (slotCount p) 0) ∙ ap (λ (n : ℕ). eqb n (p .total)) (sym (h .summed))
-
--- a legal length has at most 1,024 slots
-pub few-slots : (t : List ℕ) → isLegal (length t) ≡ true → slotCount (poolOf t) ≤ capacity
-unfolding isLegal
-few-slots t h =
-    omega (arith, slot-count t, leb-true (slotsIn (length t)) capacity (and-right (leb 1 (slotsIn (length t))) _ (and-right (eqb (rowAt (slotsIn (length t))) (length t)) _ h)))

@@ -1,5 +1,6 @@
 pub mod Parts
 pub mod Rows
+pub mod Legal
 pub mod Zeroed
 pub mod Theorems
 pub mod Pools

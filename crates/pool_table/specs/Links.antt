@@ -31,7 +31,7 @@ pub data Together (p : Pool) : ℕ → ℕ → Type 0 where
   itself : {a : ℕ} → Together p a a
   linked : {a b : ℕ} → Way (isLinked p) a b → Together p a b
 
--- the same computed: that both agree is a theorem (proofs/Theorems.antt)
+-- the same computed: that both agree is a theorem (proofs/Theorems.antt of pool_clusters)
 unfoldable pub inCluster : Pool → ℕ → ℕ → Bool
 inCluster p a b = eqb a b || reach (isLinked p) (slotCount p) a b
 

@@ -1,13 +1,13 @@
 -- Laws of specs/SlotSets.antt: the words of the positions that have a property, and words that stand within a longer list. Assumes nothing.
 use mathlib.Core.Path.{_≡_, refl, sym, ap, ap₂, _∙_}
-use mathlib.Core.Bool.{Bool, true, false, not, _&&_, _||_}
+use mathlib.Core.Bool.{Bool, true, false, _&&_}
 use mathlib.Core.Logic.{⊎-elim}
-use mathlib.Core.List.{List, [], _∷_}
-use Prim.Native.Nat.{ℕ, zero, suc, _+_, _-_, _*_, _/_, _%_, _^_, _≤_, _<_}
+use mathlib.Core.List.{List, _∷_}
+use Prim.Native.Nat.{ℕ, zero, suc, _+_, _*_, _/_, _%_, _^_, _≤_, _<_}
 use native.Mathlib.Nat.{pow-succ', add-zero}
 use native.Mathlib.Omega.{arith}
 use lib.Dec.{lit<, eqb, ltb}
-use lib.ListN.{length, getD, replicate, List·getD-eq-default}
+use lib.ListN.{length, getD, replicate}
 use lib.Seq.{ext-getD}
 use borrow.Author.Tests.{lt-ltb, le-ltb}
 use Rattle.lists.specs.Below.{bit}
@@ -15,7 +15,7 @@ use Rattle.lists.proofs.Numbers.{lt-or-ge}
 use Rattle.txset.specs.Sets.{has, hasIn}
 use Rattle.txset.proofs.Bits.{has-ext, has-low, has-suc}
 use Rattle.txset.proofs.Words.{Fits, hasIn-past}
-use Rattle.slotsets.specs.SlotSets.{capacity, setWords, wordOf, wordsOf, setOf, none, plus, minus, wordsFrom, setFrom}
+use Rattle.slotsets.specs.SlotSets.{capacity, setWords, wordOf, wordsOf, setOf, none, wordsFrom, setFrom}
 use Rattle.slotsets.proofs.Words.{word-in}
 
 -- ---- one word of a property

@@ -12,6 +12,7 @@ use lib.Seq.{getD-set-same, getD-set-other}
 use lib.Bits.{bitAnd, bitOr}
 use lib.Pow.{pow-lt}
 use borrow.Author.Tests.{ne-eqb, lt-ltb, le-ltb, ltb-true, eqb-true, eqb-false}
+use Rattle.lists.proofs.Bools.{asked}
 use Rattle.lists.proofs.Numbers.{lt-or-ge, ltb-same, eqb-same}
 use Rattle.lists.proofs.Below.{First, first-unique, first-is}
 use Rattle.txset.specs.Sets.{has, hasIn}
@@ -57,11 +58,7 @@ put-slot h ws p v l same e i = go (eqb (i / 64) (p / 64)) refl
 
 -- among the positions of a list, p is one or none
 span-in : (ws : List ℕ) (p i : ℕ) → p / 64 < length ws → (ltb i (span ws) && eqb i p) ≡ eqb i p
-span-in ws p i l = go (eqb i p) refl
-  where
-    go : (b : Bool) → eqb i p ≡ b → (ltb i (span ws) && b) ≡ b
-    go true e = let z : i ≡ p = eqb-true i p e in ap (λ (b : Bool). b && true) (lt-ltb i (span ws) (omega arith))
-    go false e = and-false (ltb i (span ws))
+span-in ws p i l = asked (ltb i (span ws)) (eqb i p) (λ e. lt-ltb i (span ws) (omega (arith, eqb-true i p e)))
 
 span-out : (ws : List ℕ) (p i : ℕ) → length ws ≤ p / 64 → (ltb i (span ws) && eqb i p) ≡ false
 span-out ws p i l = go (ltb i (span ws)) refl

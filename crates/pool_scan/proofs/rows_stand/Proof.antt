@@ -10,7 +10,8 @@ use Rattle.pool_scan.specs.Rows.{rowStands}
 use borrow.Author.Needs.{needs}
 use Rattle.pool_table.specs.Pool.{slotCount}
 use Rattle.pool_table.specs.Words.{isLegal, poolOf}
-use Rattle.pool_scan.proofs.Scan.{Scanned, scan-start, scan-turn, scan-bad, scan-done, weight-small, few-slots}
+use Rattle.pool_table.proofs.Legal.{few-slots}
+use Rattle.pool_scan.proofs.Scan.{Scanned, scan-start, scan-turn, scan-bad, scan-done, weight-small}
 use Rattle.pool_scan.proofs.rows_stand.Statement.{statement}
 use Rattle.pool_scan.proofs.rows_stand.Tie as tie
 

@@ -1,7 +1,7 @@
 use mathlib.Core.Logic.{inl, inr}
 use Prim.Native.Nat.{_-_}
 use native.Mathlib.Omega.{arith}
-use lib.ListN.{length, length-set}
+use lib.ListN.{length}
 use borrow.Author.Needs.{needs}
 use Rattle.slotsets.proofs.Words.{Upto, upto-start, upto-done, joined, joined-past, joined-turn}
 use Rattle.slotsets.proofs.join.Statement.{statement}
