@@ -1,18 +1,18 @@
 -- The walks over the slots: the first that has a property, how many have it, and what a look-up's answer says. Assumes nothing.
 use mathlib.Core.Path.{_≡_, sym, ap, _∙_}
-use mathlib.Core.Bool.{Bool, true, false, cond}
-use Prim.Native.Nat.{ℕ, _+_, _<_}
+use mathlib.Core.Bool.{Bool, true, false, cond, not}
+use Prim.Native.Nat.{ℕ, _+_, _≤_, _<_}
 use native.Mathlib.Nat.{add-zero, zero-add}
 use native.Mathlib.Omega.{arith}
-use borrow.Author.Tests.{lt-ltb, le-ltb}
+use borrow.Author.Tests.{lt-ltb, le-ltb, not-true}
 use Rattle.lists.specs.Below.{bit, countFrom, firstFrom}
-use Rattle.lists.proofs.Below.{first-unique, any-first, count-split}
+use Rattle.lists.proofs.Below.{first-is, first-unique, any-first, count-split}
 use Rattle.lists.proofs.Bools.{cond-first, cond-second}
 use Rattle.txids.specs.declared.Txid.{Txid}
 use Rattle.txids.specs.Txids.{sameTxid}
 use Rattle.pool_table.specs.Pool.{Pool, slotAt, slotCount, occupied}
 use Rattle.pool_rules.specs.declared.Placed.{Placed}
-use Rattle.pool_rules.specs.Module8.{holds, isIn, slotOf}
+use Rattle.pool_rules.specs.Module8.{holds, isIn, slotOf, isFull, lowestFree}
 use Rattle.pool_rules.specs.Calls.{placed, noSlot}
 
 -- ---- the first
@@ -71,3 +71,18 @@ module _ (p : Pool) (t : Txid) where
 
   pub is-nowhere : Answer (noSlot 10) → isIn p t ≡ false
   is-nowhere e = cond-second (isIn p t) (sym e) (λ z. let d : 0 ≡ 10 = ap (λ (r : Placed). r .answer) z in omega arith) .0
+
+-- ---- the lowest free slot
+
+module _ (p : Pool) where
+  pub full-past : slotCount p ≤ lowestFree p → isFull p ≡ true
+  unfolding isFull lowestFree
+  full-past l = rw (any-first (λ s. not (occupied p s)) (slotCount p) 0, le-ltb (lowestFree p) (0 + slotCount p) (omega arith))
+
+  pub room-below : lowestFree p < slotCount p → isFull p ≡ false
+  unfolding isFull lowestFree
+  room-below l = rw (any-first (λ s. not (occupied p s)) (slotCount p) 0, lt-ltb (lowestFree p) (0 + slotCount p) (omega arith))
+
+  pub lowest-is-free : lowestFree p < slotCount p → occupied p (lowestFree p) ≡ false
+  unfolding lowestFree
+  lowest-is-free l = not-true (occupied p (lowestFree p)) (first-is (λ s. not (occupied p s)) (slotCount p) 0 .at (omega arith))

@@ -1,3 +1,5 @@
 pub mod Finds
 pub mod Listed
 pub mod Pools
+pub mod Tables
+pub mod Sound

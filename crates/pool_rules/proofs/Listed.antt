@@ -2,14 +2,15 @@
 use mathlib.Core.Path.{_≡_, sym, ap, ap₂, _∙_}
 use mathlib.Core.Bool.{Bool, true, false, not, _&&_, _||_, and-false, or-false}
 use mathlib.Core.List.{List}
-use Prim.Native.Nat.{ℕ, _+_, _*_}
+use Prim.Native.Nat.{ℕ, _+_, _*_, _<_}
 use native.Mathlib.Nat.{zero-add}
 use native.Mathlib.Omega.{arith}
 use lib.Dec.{eqb, ltb}
 use lib.ListN.{length, replicate}
-use borrow.Author.Tests.{lt-ltb}
-use Rattle.lists.specs.Below.{anyFrom}
-use Rattle.lists.proofs.Below.{any-split}
+use borrow.Author.Tests.{lt-ltb, eqb-true}
+use Rattle.lists.specs.Below.{anyFrom, firstFrom}
+use Rattle.lists.proofs.Below.{any-split, first-below, first-has}
+use Rattle.lists.proofs.Bools.{and-both, and-left, and-right}
 use Rattle.lists.proofs.Numbers.{flip}
 use Rattle.txset.specs.Sets.{hasIn}
 use Rattle.txset.proofs.Words.{Fits}
@@ -17,8 +18,8 @@ use Rattle.slotsets.specs.SlotSets.{setWords, span, setOf}
 use Rattle.slotsets.proofs.SlotSets.{set-is, set-at, set-ext, none-zeros}
 use Rattle.txids.specs.declared.Txid.{Txid}
 use Rattle.txids.specs.Txids.{sameTxid, txidAt, listedCount}
-use Rattle.pool_table.specs.Pool.{Pool}
-use Rattle.pool_rules.specs.Module8.{isIn, slotOf, isPlaceOf, isListed}
+use Rattle.pool_table.specs.Pool.{Pool, slotCount, occupied}
+use Rattle.pool_rules.specs.Module8.{holds, isIn, slotOf, isPlaceOf, isListed}
 
 module _ (p : Pool) (own t : Txid) where
   -- ---- one txid
@@ -75,3 +76,22 @@ module _ (p : Pool) (own : Txid) (listed : List ℕ) where
   pub listed-done : (j : ℕ) (ws : List ℕ) → j ≡ listedCount listed → ws ≡ setOf (among j) → ws ≡ setOf (isListed p own listed)
   unfolding isListed
   listed-done j ws e h = h ∙ ap (λ (k : ℕ). setOf (among k)) e
+
+  -- ---- what is listed
+
+  place-held : (t : Txid) (s : ℕ) → isPlaceOf p own t s ≡ true → (s < slotCount p) × (occupied p s ≡ true)
+  unfolding isPlaceOf isIn slotOf holds
+  place-held t s h =
+      let n = slotCount p in
+      let b = and-both (isIn p t) (eqb (slotOf p t) s) (and-right (not (sameTxid t own)) _ h) in
+      let e : slotOf p t ≡ s = eqb-true (slotOf p t) s (b .1) in
+      let l : slotOf p t < 0 + n = first-below (holds p t) n 0 (b .0) in
+      let o : occupied p (slotOf p t) ≡ true = and-left (occupied p (slotOf p t)) _ (first-has (holds p t) n 0 (b .0)) in
+      (omega arith, rw e at o)
+
+  -- it is an entry's slot
+  pub listed-held : (s : ℕ) → isListed p own listed s ≡ true → (s < slotCount p) × (occupied p s ≡ true)
+  unfolding isListed
+  listed-held s h =
+      let f : ℕ → Bool = λ j. isPlaceOf p own (txidAt listed (32 * j)) s in
+      place-held (txidAt listed (32 * firstFrom f (listedCount listed) 0)) s (first-has f (listedCount listed) 0 h)
