@@ -1,5 +1,5 @@
--- For readers: a number of the input, and a fee, has one spelling; and what a text that is too long is read as shows at its start. No
--- proof of a function cites these. Assumes nothing.
+-- For readers: a number of the input, and a fee, has one spelling; what a text that is too long, or decided, is read as shows at its
+-- start; and the contract of `read_cluster` allows one answer. No proof of a function cites these. Assumes nothing.
 use mathlib.Core.Path.{_≡_, refl, sym, ap, ap₂, subst, _∙_}
 use mathlib.Core.Bool.{Bool, true, false, cond, not, _&&_, _||_, or-false, or-true}
 use mathlib.Core.Logic.{_⊎_, inl, inr, ⊎-elim}
@@ -21,7 +21,7 @@ use Rattle.cluster_reader.specs.Numerals.{isDigit, valueFrom, isPlain, n
 use Rattle.cluster_reader.specs.declared.Input.{Input}
 use Rattle.cluster_reader.specs.declared.Input.the-variants as input
 use Rattle.cluster_reader.specs.Lines.{before, longestText, isField, valueOf}
-use Rattle.cluster_reader.specs.Reading.{nKey, isNumber, numberIn, read, Told, told, firstTold}
+use Rattle.cluster_reader.specs.Reading.{nKey, isNumber, numberIn, read, Told, told, readTold, firstTold}
 use Rattle.cluster_reader.specs.Steps.{hasEnd}
 use Rattle.cluster_reader.specs.Calls.{Decided, isDecided}
 use Rattle.cluster_reader.proofs.Reading.{read-count, first-goes-on, many-decided, malformed-decided, count-open, malformed-certain}
@@ -213,3 +213,7 @@ told-unique input.TooMany input.Malformed e = absurd (omega (arith, ap (λ (t : 
 told-unique input.Malformed (input.Members n) e = absurd (omega (arith, ap (λ (t : Told). t .number) e))
 told-unique input.Malformed input.TooMany e = absurd (omega (arith, ap (λ (t : Told). t .number) e))
 told-unique input.Malformed input.Malformed e = refl
+
+-- so two answers that the contract of `read_cluster` allows are one
+pub read-cluster-one : (text : List ℕ) {i j : Input} → told i ≡ readTold (read text) → told j ≡ readTold (read text) → i ≡ j
+read-cluster-one text {i} {j} p q = told-unique i j (p ∙ sym q)

@@ -16,7 +16,9 @@ use Rattle.ways.specs.Ways.{step, further}
 use Rattle.depgraph.specs.Graph.{isParent, Above, isCyclic}
 use Rattle.depgraph.proofs.Parents.{among}
 use Rattle.depgraph.proofs.Theorems.{cyclic-is}
+use Rattle.chunking.specs.Chunks.{swallow, chunksAfter, lengthsOf, chunkLengths}
 use Rattle.linearize.specs.Linearize.{linearOrder}
+use Rattle.linearize.specs.Cases.{clusterChunks}
 use Rattle.linearize.proofs.Theorems.{linear-below, linear-length}
 
 -- no member is its own parent
@@ -50,6 +52,11 @@ module _ (fs : List ℤ) (ss ps : List ℕ) (as-long : length ps ≡ length fs) 
   alone-order h =
       let n = linear-length fs ss ps as-long (few-acyclic ps (omega arith)) in
       one-zero (linearOrder fs ss ps) (omega arith) (λ i m. omega (arith, linear-below fs ss ps i m))
+
+-- "one member: order 0, chunks 1", whatever its fee, its size and its parents
+pub alone-chunks : (f : ℤ) (s p : ℕ) → clusterChunks (f ∷ []) (s ∷ []) (p ∷ []) ≡ 1 ∷ []
+unfolding chunkLengths lengthsOf chunksAfter swallow
+alone-chunks f s p = rw (alone-order (f ∷ []) (s ∷ []) (p ∷ []) refl refl)
 
 -- the room with such an order at its start
 pub none-room : (o room : List ℕ) → o ≡ [] → room ≡ overwrite o room
