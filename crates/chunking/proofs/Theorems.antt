@@ -2,15 +2,15 @@
 use Prim.Native.Nat.{ℕ, zero, suc, _+_, _≤_, _<_}
 use native.Mathlib.Omega.{arith}
 use mathlib.Core.Path.{_≡_, refl, ap, _∙_}
-use mathlib.Core.Bool.{Bool, true, false, not, _&&_, and-eq-true-iff}
-use mathlib.Core.List.{List, [], _∷_, _++_, append-nil, append-assoc}
+use mathlib.Core.Bool.{Bool, true, false, cond, not, _&&_, and-eq-true-iff}
+use mathlib.Core.List.{List, [], _∷_, _++_, append-nil, append-assoc, List·Memᴰ}
 use lib.Dec.{lit<}
 use lib.ListN.{length, getD, length-append, length-map}
 use lib.IntN.{ℤ}
 use Rattle.feefrac.proofs.Exact.{spread, sumOf, sumOf-append, Within, within-spread}
 use Rattle.feefrac.proofs.Exact.{feesOf, sizesOf, far, far-append, HasFees, HasSizes, Sums, fees-one, fees-both, sizes-one, sizes-both}
 use Rattle.lists.proofs.Bools.{cond-where}
-use Rattle.lists.proofs.Lists.{each-at, each-snoc, Each}
+use Rattle.lists.proofs.Lists.{each-at, each-mem, each-snoc, Each}
 use Rattle.feefrac.specs.declared.FeeFrac.{FeeFrac}
 use Rattle.feefrac.specs.Rate.{sum, higher}
 use Rattle.txset.specs.Sets.{positions}
@@ -120,6 +120,18 @@ unfoldable pub CutBy : (Chunk → List FeeFrac → Type 0) → List FeeFrac → 
 CutBy P rs [] = rs ≡ []
 CutBy P rs (c ∷ cs) = (front : List FeeFrac) × (own : List FeeFrac) × (rs ≡ front ++ own) × P c own × CutBy P front cs
 
+-- the chunk that swallows, at each place where it is compared
+unfoldable pub swallowing : Chunk → List Chunk → List Chunk
+swallowing c [] = c ∷ []
+swallowing c (t ∷ ts) = c ∷ cond (higher (c .rate) (t .rate)) (swallowing (joined c t) ts) []
+
+-- it has the property with the last of these members
+pub record EndsIn (P : Chunk → List FeeFrac → Type 0) (rs : List FeeFrac) (c : Chunk) : Type 0 where
+  pub front : List FeeFrac
+  pub own : List FeeFrac
+  pub is : rs ≡ front ++ own
+  pub has : P c own
+
 -- a property that one member alone has, and two chunks joined, in a list with Q, which the list's parts have too
 module _
     (P : Chunk → List FeeFrac → Type 0)
@@ -154,6 +166,24 @@ module _
   unfolding CutBy
   cut-chunks rs h = cut-after rs [] [] h refl
 
+  -- and a chunk that swallows has it all the while
+  cut-swallowing : (c : Chunk) (cs : List Chunk) (front own : List FeeFrac) → Q (front ++ own) → P c own → CutBy P front cs
+      → Each (EndsIn P (front ++ own)) (swallowing c cs)
+  unfolding CutBy swallowing Each
+  cut-swallowing c [] front own h p k = (record { front = front; own = own; is = refl; has = p }, tt)
+  cut-swallowing c (t ∷ ts) front own h p k =
+      let e : front ++ own ≡ k .0 ++ (k .1 ++ own) = ap (λ (l : List FeeFrac). l ++ own) (k .2) ∙ append-assoc (k .0) (k .1) own in
+      let q : Q (k .0 ++ (k .1 ++ own)) = rw e at h in (
+        record { front = front; own = own; is = refl; has = p },
+        cond-where (Each (EndsIn P (front ++ own))) (higher (c .rate) (t .rate))
+            (λ _. rw e (cut-swallowing (joined c t) ts (k .0) (k .1 ++ own) q (two c t (k .1) own (in-back (k .0) (k .1 ++ own) q) p (k .3)) (k .4)))
+            (λ _. tt),
+      )
+
+  -- as the next member does
+  pub next-chunk : (rs : List FeeFrac) (r : FeeFrac) → Q (rs ++ (r ∷ [])) → Each (EndsIn P (rs ++ (r ∷ []))) (swallowing (alone r) (chunksAfter [] rs))
+  next-chunk rs r h = cut-swallowing (alone r) (chunksAfter [] rs) rs (r ∷ []) h (one r (in-back rs (r ∷ []) h)) (cut-chunks rs (in-front rs (r ∷ []) h))
+
 -- ---- each chunk has the sum of its own members
 
 -- c is the chunk of these members, and its sum has the property with them
@@ -169,13 +199,20 @@ module _
     (in-back : (xs ys : List FeeFrac) → Q (xs ++ ys) → Q ys)
     (one : (r : FeeFrac) → Q (r ∷ []) → P r (r ∷ []))
     (two : (a b : FeeFrac) (xs ys : List FeeFrac) → Q (xs ++ ys) → P a ys → P b xs → P (sum a b) (xs ++ ys)) where
+  of-one : (r : FeeFrac) → Q (r ∷ []) → Of P (alone r) (r ∷ [])
+  of-one r q = record { len = refl; rate = one r q }
+
+  of-two : (c t : Chunk) (xs ys : List FeeFrac) → Q (xs ++ ys) → Of P c ys → Of P t xs → Of P (joined c t) (xs ++ ys)
+  of-two c t xs ys q p k = record {
+    len = omega (arith, length-append xs ys, p .len, k .len);
+    rate = two (c .rate) (t .rate) xs ys q (p .rate) (k .rate);
+  }
+
   cut-sums : (rs : List FeeFrac) → Q rs → CutBy (Of P) rs (chunksAfter [] rs)
-  cut-sums =
-      cut-chunks (Of P) Q in-front in-back (λ r q. record { len = refl; rate = one r q })
-      (λ c t xs ys q p k. record {
-        len = omega (arith, length-append xs ys, p .len, k .len);
-        rate = two (c .rate) (t .rate) xs ys q (p .rate) (k .rate);
-      })
+  cut-sums = cut-chunks (Of P) Q in-front in-back of-one of-two
+
+  next-sums : (rs : List FeeFrac) (r : FeeFrac) → Q (rs ++ (r ∷ [])) → Each (EndsIn (Of P) (rs ++ (r ∷ []))) (swallowing (alone r) (chunksAfter [] rs))
+  next-sums = next-chunk (Of P) Q in-front in-back of-one of-two
 
 -- the fees, signs aside, stay below 2^63 together
 abbrev pub Near : List FeeFrac → Type 0
@@ -241,12 +278,31 @@ rates-fit (f ∷ fs) (s ∷ ss) h (suc j) = rates-fit fs ss (λ i. h (suc i)) j
 pub call-sized : (fs : List ℤ) (ss : List ℕ) → Fits ss → CutBy (Of HasSizes) (rates fs ss) (chunksAfter [] (rates fs ss))
 call-sized fs ss h = chunks-sized (rates fs ss) (rates-fit fs ss h)
 
--- the fee and the size of a chunk are those of the same members, for every cluster that the call does not refuse
-pub call-sums : (fs : List ℤ) (ss : List ℕ) → length fs ≤ positions → anyOutside fs ≡ false → Fits ss
-    → CutBy (Of Sums) (rates fs ss) (chunksAfter [] (rates fs ss))
-call-sums fs ss few e h =
-    cut-sums Sums (λ l. Near l × Small l) (λ xs ys q. (near-front xs ys (q .0), small-front xs ys (q .1)))
-    (λ xs ys q. (near-back xs ys (q .0), small-back xs ys (q .1)))
-    (λ r q. record { fee = fees-one r; size = sizes-one r (q .1 0) })
-    (λ a b xs ys q p k. record { fee = near-both a b xs ys (q .0) (p .fee) (k .fee); size = sizes-both a b xs ys (p .size) (k .size) })
-    (rates fs ss) (call-near fs ss few e, rates-fit fs ss h)
+-- ---- the fee and the size of a chunk are those of the same members
+
+both-front : (xs ys : List FeeFrac) → Near (xs ++ ys) × Small (xs ++ ys) → Near xs × Small xs
+both-front xs ys q = (near-front xs ys (q .0), small-front xs ys (q .1))
+
+both-back : (xs ys : List FeeFrac) → Near (xs ++ ys) × Small (xs ++ ys) → Near ys × Small ys
+both-back xs ys q = (near-back xs ys (q .0), small-back xs ys (q .1))
+
+both-one : (r : FeeFrac) → Near (r ∷ []) × Small (r ∷ []) → Sums r (r ∷ [])
+both-one r q = record { fee = fees-one r; size = sizes-one r (q .1 0) }
+
+both-two : (a b : FeeFrac) (xs ys : List FeeFrac) → Near (xs ++ ys) × Small (xs ++ ys) → Sums a ys → Sums b xs → Sums (sum a b) (xs ++ ys)
+both-two a b xs ys q p k = record { fee = near-both a b xs ys (q .0) (p .fee) (k .fee); size = sizes-both a b xs ys (p .size) (k .size) }
+
+-- for every cluster that the call does not refuse
+module _ (fs : List ℤ) (ss : List ℕ) (few : length fs ≤ positions) (inside : anyOutside fs ≡ false) (fits : Fits ss) where
+  pub call-sums : CutBy (Of Sums) (rates fs ss) (chunksAfter [] (rates fs ss))
+  call-sums =
+      cut-sums Sums (λ l. Near l × Small l) both-front both-back both-one both-two (rates fs ss) (call-near fs ss few inside, rates-fit fs ss fits)
+
+  -- and for the next member's while it swallows, whichever members went before it
+  pub call-next : (before : List FeeFrac) (r : FeeFrac) (rest : List FeeFrac) → rates fs ss ≡ (before ++ (r ∷ [])) ++ rest
+      → (c : Chunk) → List·Memᴰ c (swallowing (alone r) (chunksAfter [] before)) → EndsIn (Of Sums) (before ++ (r ∷ [])) c
+  call-next before r rest e =
+      let near : Near ((before ++ (r ∷ [])) ++ rest) = rw e at (call-near fs ss few inside) in
+      let small : Small ((before ++ (r ∷ [])) ++ rest) = rw e at (rates-fit fs ss fits) in
+      each-mem (EndsIn (Of Sums) (before ++ (r ∷ []))) (swallowing (alone r) (chunksAfter [] before))
+      (next-sums Sums (λ l. Near l × Small l) both-front both-back both-one both-two before r (both-front (before ++ (r ∷ [])) rest (near, small)))

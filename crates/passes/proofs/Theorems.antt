@@ -1,7 +1,7 @@
 -- What a pass leaves as it is: each position comes as often as before. So there are as many, the members are the same, and none comes
 -- twice where none did. Then what the sums of its groups are. Assumes nothing.
 use mathlib.Core.Path.{_≡_, refl, sym, ap, ap₂, _∙_}
-use mathlib.Core.Bool.{Bool, true, false, not, _&&_, _||_}
+use mathlib.Core.Bool.{Bool, true, false, cond, not, _&&_, _||_}
 use mathlib.Core.List.{List, [], _∷_, _++_, map, map-append, reverse, reverse-cons, List·Memᴰ}
 use Prim.Native.Nat.{ℕ, _+_, _*_, _^_, _≤_, _<_}
 use native.Mathlib.Omega.{arith}
@@ -131,6 +131,12 @@ back-same fs ss desc order =
 
 -- ---- the sums of the groups
 
+-- the group that settles, at each place where it is compared: it may have merged others before
+unfoldable pub settling : (ℕ → ℕ → Bool) → Group → List Group → List Group
+settling dep cur [] = cur ∷ []
+settling dep cur (g ∷ gs) =
+    cur ∷ cond (higher (cur .rate) (g .rate)) (cond (dependsOn dep cur g) (settling dep (absorb g cur) gs) (settling dep cur gs)) []
+
 -- the group's feerate is the sum of its members' feerates
 abbrev pub GroupSums : (ℕ → FeeFrac) → Group → Type 0
 GroupSums rate g = Sums (g .rate) (map rate (g .txs))
@@ -161,43 +167,77 @@ module _ (rate : ℕ → FeeFrac) where
   abbrev AllSums : List Group → Type 0
   AllSums = Each (GroupSums rate)
 
-  settle-sums : (dep : ℕ → ℕ → Bool) (cur : Group) (gs : List Group) → apart (flat gs) + apart (cur .txs) < 9223372036854775808
-      → GroupSums rate cur → AllSums gs → AllSums (settle dep cur gs)
+  -- where the fees, signs aside, stay below 2^63 together, a merge has them of both
+  merge-sums : (cur g : Group) (gs : List Group) → apart (flat gs ++ g .txs) + apart (cur .txs) < 9223372036854775808 → GroupSums rate cur
+      → GroupSums rate g → (apart (flat gs) + apart (absorb g cur .txs) < 9223372036854775808) × GroupSums rate (absorb g cur)
+  merge-sums cur g gs h p q = (
+    omega (arith, apart-append (flat gs) (g .txs), apart-append (g .txs) (cur .txs)),
+    absorb-sums g cur (omega (arith, apart-append (flat gs) (g .txs))) q p,
+  )
+
+  -- a group settles: the groups that it leaves have them, and so has it all the while
+  pub settle-sums : (dep : ℕ → ℕ → Bool) (cur : Group) (gs : List Group) → far (map rate (flat gs)) + far (map rate (cur .txs)) < 9223372036854775808
+      → GroupSums rate cur → Each (GroupSums rate) gs → Each (GroupSums rate) (settle dep cur gs)
   unfolding Each flat settle
   settle-sums dep cur [] h p q = (p, tt)
   settle-sums dep cur (g ∷ gs) h p q =
       cond-where AllSums (higher (cur .rate) (g .rate))
       (λ _. cond-where AllSums (dependsOn dep cur g)
-      (λ _. settle-sums dep (absorb g cur) gs (omega (arith, apart-append (flat gs) (g .txs), apart-append (g .txs) (cur .txs)))
-      (absorb-sums g cur (omega (arith, apart-append (flat gs) (g .txs))) (q .0) p) (q .1))
+      (λ _. let m = merge-sums cur g gs h p (q .0) in settle-sums dep (absorb g cur) gs (m .0) (m .1) (q .1))
       (λ _. (q .0, settle-sums dep cur gs (omega (arith, apart-append (flat gs) (g .txs))) p (q .1))))
       (λ _. (p, q))
 
-  module _ (fit : (t : ℕ) → rate t .size < 2 ^ 64) where
-    after-sums : (dep : ℕ → ℕ → Bool) (gs : List Group) (ts : List ℕ) → apart (flat gs) + apart ts < 9223372036854775808 → AllSums gs
-        → AllSums (groupsAfter rate dep gs ts)
+  pub settling-sums : (dep : ℕ → ℕ → Bool) (cur : Group) (gs : List Group) → far (map rate (flat gs)) + far (map rate (cur .txs)) < 9223372036854775808
+      → GroupSums rate cur → Each (GroupSums rate) gs → Each (GroupSums rate) (settling dep cur gs)
+  unfolding Each flat settling
+  settling-sums dep cur [] h p q = (p, tt)
+  settling-sums dep cur (g ∷ gs) h p q = (
+    p,
+    cond-where AllSums (higher (cur .rate) (g .rate))
+        (λ _. cond-where AllSums (dependsOn dep cur g)
+        (λ _. let m = merge-sums cur g gs h p (q .0) in settling-sums dep (absorb g cur) gs (m .0) (m .1) (q .1))
+        (λ _. settling-sums dep cur gs (omega (arith, apart-append (flat gs) (g .txs))) p (q .1)))
+        (λ _. tt),
+  )
+
+  module _ (fit : (t : ℕ) → rate t .size < 2 ^ 64) (dep : ℕ → ℕ → Bool) where
+    after-sums : (gs : List Group) (ts : List ℕ) → apart (flat gs) + apart ts < 9223372036854775808 → AllSums gs → AllSums (groupsAfter rate dep gs ts)
     unfolding groupsAfter spread
-    after-sums dep gs [] h p = p
-    after-sums dep gs (t ∷ ts) h p =
-        after-sums dep (settle dep (alone rate t) gs) ts
+    after-sums gs [] h p = p
+    after-sums gs (t ∷ ts) h p =
+        after-sums (settle dep (alone rate t) gs) ts
         (omega (arith, settle-keeps apart refl apart-append dep (alone rate t) gs))
         (settle-sums dep (alone rate t) gs (omega arith) (alone-sums t (fit t)) p)
 
-    -- so every group of a pass, and after each member of it, where the fees, signs aside, stay below 2^63 together
-    pub pass-exact : (dep : ℕ → ℕ → Bool) (order : List ℕ) → far (map rate order) < 9223372036854775808
-        → (g : Group) → List·Memᴰ g (groupsAfter rate dep [] order) → GroupSums rate g
+    -- so every group of a pass, after each member of it
+    pub pass-exact : (order : List ℕ) → far (map rate order) < 9223372036854775808 → Each (GroupSums rate) (groupsAfter rate dep [] order)
     unfolding Each flat spread
-    pass-exact dep order h = each-mem (GroupSums rate) (groupsAfter rate dep [] order) (after-sums dep [] order (omega arith) tt)
+    pass-exact order h = after-sums [] order (omega arith) tt
 
-    -- and for at most 64 members with fees within the limit
-    pub pass-sums : (dep : ℕ → ℕ → Bool) (order : List ℕ) → length order ≤ 64 → ((t : ℕ) → natAbs (rate t .fee) ≤ feeLimit)
-        → (g : Group) → List·Memᴰ g (groupsAfter rate dep [] order) → GroupSums rate g
-    unfolding spread
-    pass-sums dep order few near = pass-exact dep order (omega (arith, near-far order))
-      where
-        near-far : (ts : List ℕ) → far (map rate ts) ≤ feeLimit * length ts
-        near-far [] = omega arith
-        near-far (t ∷ ts) = omega (arith, near t, near-far ts)
+    -- and the next member's group while it settles
+    pub next-exact : (before : List ℕ) (t : ℕ) → far (map rate before) + far (map rate (t ∷ [])) < 9223372036854775808
+        → Each (GroupSums rate) (settling dep (alone rate t) (groupsAfter rate dep [] before))
+    unfolding flat spread
+    next-exact before t h =
+        settling-sums dep (alone rate t) (groupsAfter rate dep [] before)
+        (omega (arith, after-keeps apart refl apart-append rate dep [] before))
+        (alone-sums t (fit t)) (pass-exact before (omega arith))
+
+    -- for at most 64 members with fees within the limit
+    module _ (near : (t : ℕ) → natAbs (rate t .fee) ≤ feeLimit) where
+      near-far : (ts : List ℕ) → apart ts ≤ feeLimit * length ts
+      unfolding spread
+      near-far [] = omega arith
+      near-far (t ∷ ts) = omega (arith, near t, near-far ts)
+
+      pub pass-sums : (order : List ℕ) → length order ≤ 64 → (g : Group) → List·Memᴰ g (groupsAfter rate dep [] order) → GroupSums rate g
+      pass-sums order few = each-mem (GroupSums rate) (groupsAfter rate dep [] order) (pass-exact order (omega (arith, near-far order)))
+
+      pub next-sums : (before : List ℕ) (t : ℕ) → length before < 64
+          → (g : Group) → List·Memᴰ g (settling dep (alone rate t) (groupsAfter rate dep [] before)) → GroupSums rate g
+      next-sums before t few =
+          each-mem (GroupSums rate) (settling dep (alone rate t) (groupsAfter rate dep [] before))
+          (next-exact before t (omega (arith, near-far before, near-far (t ∷ []))))
 
 -- ---- the two passes, with the fees and sizes of a cluster within the limits
 
@@ -207,20 +247,34 @@ module _ (fs : List ℤ) (ss : List ℕ) (within : Within fs) (fits : Fits ss) w
   unfolding negated rateAt
   negated-fee t = held-near (negℤ (getD fs t (pos 0))) (omega (arith, abs-neg (getD fs t (pos 0)), within-at fs within t))
 
-  -- every group of the forward pass
-  pub forward-sums : (anc : ℕ → ℕ → Bool) (order : List ℕ) → length order ≤ 64
-      → (g : Group) → List·Memᴰ g (groupsAfter (rateAt fs ss) anc [] order) → GroupSums (rateAt fs ss) g
-  unfolding rateAt
-  forward-sums anc order few = pass-sums (rateAt fs ss) fits anc order few (within-at fs within)
+  -- every group of the forward pass, and the next member's while it settles
+  module _ (anc : ℕ → ℕ → Bool) where
+    pub forward-sums : (order : List ℕ) → length order ≤ 64
+        → (g : Group) → List·Memᴰ g (groupsAfter (rateAt fs ss) anc [] order) → GroupSums (rateAt fs ss) g
+    unfolding rateAt
+    forward-sums = pass-sums (rateAt fs ss) fits anc (within-at fs within)
+
+    pub forward-next : (before : List ℕ) (t : ℕ) → length before < 64
+        → (g : Group) → List·Memᴰ g (settling anc (alone (rateAt fs ss) t) (groupsAfter (rateAt fs ss) anc [] before)) → GroupSums (rateAt fs ss) g
+    unfolding rateAt
+    forward-next = next-sums (rateAt fs ss) fits anc (within-at fs within)
 
   -- and of the one from the back, over the negated fees
-  pub back-sums : (desc : ℕ → ℕ → Bool) (order : List ℕ) → length order ≤ 64
-      → (let rate : ℕ → FeeFrac = λ i. negated (rateAt fs ss i) in
-      (g : Group) → List·Memᴰ g (groupsAfter rate desc [] (reverse order)) → GroupSums rate g)
+  abbrev pub turned : ℕ → FeeFrac
+  turned i = negated (rateAt fs ss i)
+
+  turned-fits : (t : ℕ) → turned t .size < 2 ^ 64
   unfolding negated rateAt
-  back-sums desc order few =
-      pass-sums (λ i. negated (rateAt fs ss i)) fit desc (reverse order) (omega (arith, length-reverse order))
-      (λ t. omega (arith, ap natAbs (negated-fee t), abs-neg (getD fs t (pos 0)), within-at fs within t))
-    where
-      fit : (t : ℕ) → negated (rateAt fs ss t) .size < 2 ^ 64
-      fit t = fits t
+  turned-fits t = fits t
+
+  turned-near : (t : ℕ) → natAbs (turned t .fee) ≤ feeLimit
+  turned-near t = omega (arith, ap natAbs (negated-fee t), abs-neg (getD fs t (pos 0)), within-at fs within t)
+
+  module _ (desc : ℕ → ℕ → Bool) where
+    pub back-sums : (order : List ℕ) → length order ≤ 64
+        → (g : Group) → List·Memᴰ g (groupsAfter turned desc [] (reverse order)) → GroupSums turned g
+    back-sums order few = pass-sums turned turned-fits desc turned-near (reverse order) (omega (arith, length-reverse order))
+
+    pub back-next : (before : List ℕ) (t : ℕ) → length before < 64
+        → (g : Group) → List·Memᴰ g (settling desc (alone turned t) (groupsAfter turned desc [] before)) → GroupSums turned g
+    back-next = next-sums turned turned-fits desc turned-near
