@@ -23,6 +23,7 @@ use Rattle.feeset.proofs.Exact.{feesAt, sizesAt, at-spread, total-fee, total-si
 use Rattle.candidates.specs.Candidates.{givenBack, ancestorSum, remaining, remainingAncestors, rounds, ancestorOrder}
 use Rattle.candidates.proofs.Kept.{next-fresh, keeps-rounds, rounds-all, after-more}
 use Rattle.lists.proofs.Once.{all-there, Once, once-none, once-more, once-missing}
+use Rattle.txset.specs.Sets.{positions}
 
 module _ (fs : List ℤ) (ss : List ℕ) (anc : ℕ → ℕ → Bool) where
   taken : Once (length fs) (ancestorOrder fs ss anc)
@@ -210,8 +211,8 @@ module _
       in-parts _+_ (λ a b c. omega arith) (λ a b. omega arith) (λ is. sumOf (sizesAt ss is)) (λ t. getD ss t 0) (λ a. omega arith) (λ x xs. refl)
       (anc i) n out once below
 
-  module _ (few : n ≤ 64) (within : Within fs) where
-    few-ancestors : length ancestors ≤ 64
+  module _ (few : n ≤ positions) (within : Within fs) where
+    few-ancestors : length ancestors ≤ positions
     unfolding ancestors
     few-ancestors = omega (arith, count-le (anc i) n 0, count-list (anc i) n 0)
 
@@ -250,6 +251,6 @@ module _ (fs : List ℤ) (ss : List ℕ) (anc : ℕ → ℕ → Bool) (k i : ℕ
       fs ss k [] (once-none n)
 
   -- in each round every sum's fee is the exact sum of the fees of the ancestors that are left
-  pub round-fee : length fs ≤ 64 → Within fs → (let out = rounds fs ss (length fs) anc k [] in
+  pub round-fee : length fs ≤ positions → Within fs → (let out = rounds fs ss (length fs) anc k [] in
       ancestorSum fs ss (length fs) anc out i .fee ≡ exactSum (feesAt fs (remainingAncestors (length fs) anc i out)))
   round-fee few within = sum-fee-left fs ss (length fs) anc (rounds fs ss (length fs) anc k []) i (outs .once) (outs .below) few within

@@ -10,6 +10,7 @@ use mathlib.Core.List.{List, [], _∷_, _++_, append-assoc}
 use lib.ListN.{length, drop, getD, set, length-set, length-append, length-drop, drop-of-length-le}
 use lib.Seq.{drop-cons, getD-set-same, getD-set-other, set-at}
 use lib.IntN.{ℤ}
+use Rattle.txset.specs.Sets.{positions}
 use Rattle.feefrac.specs.declared.FeeFrac.{FeeFrac}
 use Rattle.feefrac.specs.Rate.{zeroRate, rateAt, sum, higher}
 use Rattle.chunking.specs.declared.Chunk.{Chunk}
@@ -64,7 +65,7 @@ count (c ∷ cs) = c .len + count cs
 
 -- at the head of the loop over the members: the first i of rs have made n chunks
 pub record Outer (rs : List FeeFrac) (st : List Chunk) (n i : ℕ) : Type 0 where
-  pub long : length st ≡ 64
+  pub long : length st ≡ positions
   pub few : n ≤ i
   pub all : count (stk st n) ≡ i
   pub same : chunksAfter (stk st n) (drop i rs) ≡ chunksAfter [] rs
@@ -75,7 +76,7 @@ pub record Inner (st : List Chunk) (n₀ i : ℕ) (c₀ : Chunk) (n : ℕ) (c : 
   pub all : c .len + count (stk st n) ≡ i + 1
   pub same : swallow c (stk st n) ≡ swallow c₀ (stk st n₀)
 
-pub outer-start : (rs : List FeeFrac) (st : List Chunk) → length st ≡ 64 → Outer rs st 0 0
+pub outer-start : (rs : List FeeFrac) (st : List Chunk) → length st ≡ positions → Outer rs st 0 0
 unfolding stk count
 outer-start rs st h = record { long = h; few = omega arith; all = refl; same = refl }
 
@@ -117,7 +118,7 @@ unfolding chunksAfter
 after-step cs rs i h = rw (add-one, drop-cons rs i zeroRate)
 
 pub outer-push : {rs : List FeeFrac} {st : List Chunk} {n₀ i n : ℕ} {c : Chunk} → Outer rs st n₀ i
-    → Inner st n₀ i (alone (getD rs i zeroRate)) n c → swallow c (stk st n) ≡ c ∷ stk st n → i < length rs → i < 64
+    → Inner st n₀ i (alone (getD rs i zeroRate)) n c → swallow c (stk st n) ≡ c ∷ stk st n → i < length rs → i < positions
     → Outer rs (set st n c) (n + 1) (i + 1)
 unfolding count
 outer-push {rs} {st} {n₀} {i} {n} {c} o v e h k =

@@ -232,7 +232,7 @@ pub chunks-exact : (rs : List FeeFrac) → Near rs → CutBy (Of HasFees) rs (ch
 chunks-exact = cut-sums HasFees Near near-front near-back (λ r _. fees-one r) near-both
 
 -- so it is for at most 64 members with fees within the limit
-pub chunks-within : (rs : List FeeFrac) → length rs ≤ 64 → Within (feesOf rs) → CutBy (Of HasFees) rs (chunksAfter [] rs)
+pub chunks-within : (rs : List FeeFrac) → length rs ≤ positions → Within (feesOf rs) → CutBy (Of HasFees) rs (chunksAfter [] rs)
 chunks-within rs few h = chunks-exact rs (omega (arith, within-spread (feesOf rs) h, length-map rs (λ r. r .fee)))
 
 rates-far : (fs : List ℤ) (ss : List ℕ) → far (rates fs ss) ≤ spread fs

@@ -37,7 +37,7 @@ pub fn chunk_lengths(fees: &[i64], sizes: &[u64], room: &mut [usize]) -> Reply
     Reply::wrote(write_chunks(fees, sizes, room))
 }
 
-// Writes the lengths of the chunks of an order to the start of `lens`; answers how many there are. Where the order is longer than 64 or
+// Writes the lengths of the chunks of an order to the start of `lens`; answers how many there are. Where the order is longer than a set has positions or
 // than `lens`, it writes nothing and answers 0.
 pub fn order_lengths(fees: &[i64], sizes: &[u64], order: &[usize], lens: &mut [usize]) -> usize
     ensures { λ r. ⌜ r ≡ lengthsWritten (now (fees .entry)) (now (sizes .entry)) (now (order .entry)) (now (lens .entry)) ⌝ }
@@ -50,8 +50,8 @@ pub fn order_lengths(fees: &[i64], sizes: &[u64], order: &[usize], lens: &mut [u
     if lens.len() < n {
         return 0;
     }
-    let mut in_fees = [0i64; 64];
-    let mut in_sizes = [0u64; 64];
+    let mut in_fees = [0i64; POSITIONS];
+    let mut in_sizes = [0u64; POSITIONS];
     gather(fees, sizes, order, &mut in_fees, &mut in_sizes);
     write_chunks(&in_fees[..n], &in_sizes[..n], lens)
 }
@@ -80,7 +80,7 @@ fn write_chunks(fees: &[i64], sizes: &[u64], room: &mut [usize]) -> usize
         rate: FeeFrac { fee: 0, size: 0 },
         len: 0,
     };
-    let mut stack = [none; 64];
+    let mut stack = [none; POSITIONS];
     let mut count: usize = 0;
     let mut i: usize = 0;
     while i < fees.len() {

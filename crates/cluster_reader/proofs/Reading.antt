@@ -12,7 +12,7 @@ use lib.ListN.{length, drop, take, set, length-drop, length-set, drop-of-length-
 use lib.Seq.{drop-cons, take-suc-set}
 use lib.IntN.{ℤ}
 use borrow.Author.Tests.{lt-ltb, le-ltb, ltb-true, ltb-false}
-use Rattle.txset.specs.Sets.{positions}
+use Rattle.txset.specs.Sets.{positions, setWords}
 use Rattle.lists.proofs.Numbers.{lt-or-ge}
 use Rattle.lists.proofs.Bools.{and-both, cond-first, cond-second}
 use Rattle.txset.specs.declared.TxSet.{TxSet}
@@ -24,7 +24,7 @@ use Rattle.cluster_reader.specs.declared.Member.the-variants as member
 use Rattle.cluster_reader.specs.declared.MemberLines.{MemberLines}
 use Rattle.cluster_reader.specs.declared.Parents.the-variants as parents
 use Rattle.cluster_reader.specs.Numerals.{numberOf, feeOf}
-use Rattle.cluster_reader.specs.Lines.{before, behind, isLine, longestLine, starts, isField, valueOf}
+use Rattle.cluster_reader.specs.Lines.{before, behind, longestLine, isField, valueOf}
 use Rattle.cluster_reader.specs.Reading.{nKey, feeKey, sizeKey, parentsKey, isNumber, numberIn, isFee, parts, areNumbers, wordOf}
 use Rattle.cluster_reader.specs.Reading.{isMember, memberFee, memberSize, memberParents, nextMember, Read, refused, cluster, members, read}
 use Rattle.cluster_reader.specs.Reading.{Told, told, readTold, firstTold}
@@ -168,13 +168,13 @@ module _ (text : List ℕ) (from : ℕ) where
 pub record Taken (n : ℕ) (text : List ℕ) (from : ℕ) (fs : List ℤ) (ss ps : List ℕ) (at i : ℕ) : Type 0 where
   pub count : i ≤ n
   pub within : at ≤ length text
-  pub fees : length fs ≡ 64
-  pub sizes : length ss ≡ 64
-  pub words : length ps ≡ 64
+  pub fees : length fs ≡ positions
+  pub sizes : length ss ≡ positions
+  pub words : length ps ≡ setWords
   pub rest : members n (drop from text) [] [] [] ≡ members (n - i) (drop at text) (take i fs) (take i ss) (take i ps)
 
 pub none-taken : (n : ℕ) (text : List ℕ) (from : ℕ) (fs : List ℤ) (ss ps : List ℕ) → from ≤ length text
-    → length fs ≡ 64 → length ss ≡ 64 → length ps ≡ 64 → Taken n text from fs ss ps from 0
+    → length fs ≡ positions → length ss ≡ positions → length ps ≡ setWords → Taken n text from fs ss ps from 0
 none-taken n text from fs ss ps l f s p = record {
   count = omega arith;
   within = l;
@@ -199,7 +199,7 @@ module _ {n : ℕ} {text : List ℕ} {from : ℕ} {fs : List ℤ} {ss ps : List 
   unfolding members
   stop l e = more l ∙ rw e
 
-  pub turn : i < n → n ≤ 64 → (m : MemberLines) → Lines (drop at text) text m → {fs′ : List ℤ} {ss′ ps′ : List ℕ}
+  pub turn : i < n → n ≤ positions → (m : MemberLines) → Lines (drop at text) text m → {fs′ : List ℤ} {ss′ ps′ : List ℕ}
       → fs′ ≡ set fs i (m .fee) → ss′ ≡ set ss i (m .size) → ps′ ≡ set ps i (m .parents .word) → Taken n text from fs′ ss′ ps′ (m .next) (i + 1)
   unfolding members
   turn l h m r ef es ep =
@@ -300,7 +300,7 @@ module _ (text : List ℕ) where
 
   pub record Counted (n : ℕ) : Type 0 where
     pub is : read text ≡ members n (drop (nextLine text 0) text) [] [] []
-    pub few : n ≤ 64
+    pub few : n ≤ positions
     pub inside : nextLine text 0 ≤ length text
     pub near : nextLine text 0 ≤ longestLine
     pub ends : length (before 10 text) < length text

@@ -3,6 +3,7 @@ ghost use mathlib.Core.Path.{_≡_};
 ghost use mathlib.Core.List.{[], _++_};
 ghost use Prim.Native.Nat.{_≤_};
 ghost use lib.ListN.{length, take, drop};
+ghost use Rattle.txset.specs.Sets.{positions};
 ghost use Rattle.cluster_reader.specs.Reading.{read, members, told, readTold, firstTold};
 ghost use Rattle.cluster_reader.specs.Calls.{feesAfter, sizesAfter, parentsAfter, Decided, isDecided};
 ghost use Rattle.cluster_reader.specs.Steps.{memberAt, parentsIn};
@@ -12,6 +13,7 @@ mod numerals;
 
 use feefrac::FeeFrac;
 use txset::POSITIONS;
+use txset::SET_WORDS;
 use txset::TxSet;
 
 // How many members were read, or which refusal it is: `told` of specs/Reading.antt has its number.
@@ -42,9 +44,9 @@ pub enum Parents {
 // Reads the whole input. Where it is of its form, the arrays take the members, from their start; else they stay.
 pub fn read_cluster(
     text: &[u8],
-    fees: &mut [i64; 64],
-    sizes: &mut [u64; 64],
-    parents: &mut [u64; 64],
+    fees: &mut [i64; POSITIONS],
+    sizes: &mut [u64; POSITIONS],
+    parents: &mut [u64; SET_WORDS],
 ) -> Input
     ensures { λ r. ⌜ told r ≡ readTold (read (now (text .entry))) ⌝ }
     ensures { λ _. ⌜ now (fees .exit) ≡ feesAfter (read (now (text .entry))) (now (fees .entry)) ⌝ }
@@ -85,20 +87,20 @@ fn read_members(
     text: &[u8],
     from: usize,
     n: usize,
-    fees: &mut [i64; 64],
-    sizes: &mut [u64; 64],
-    parents: &mut [u64; 64],
+    fees: &mut [i64; POSITIONS],
+    sizes: &mut [u64; POSITIONS],
+    parents: &mut [u64; SET_WORDS],
 ) -> Input
     requires { ⌜ from ≤ length (now text) ⌝ }
-    requires { ⌜ n ≤ 64 ⌝ }
+    requires { ⌜ n ≤ positions ⌝ }
     ensures { λ r. ⌜ told r ≡ readTold (members n (drop from (now (text .entry))) [] [] []) ⌝ }
     ensures { λ _. ⌜ now (fees .exit) ≡ feesAfter (members n (drop from (now (text .entry))) [] [] []) (now (fees .entry)) ⌝ }
     ensures { λ _. ⌜ now (sizes .exit) ≡ sizesAfter (members n (drop from (now (text .entry))) [] [] []) (now (sizes .entry)) ⌝ }
     ensures { λ _. ⌜ now (parents .exit) ≡ parentsAfter (members n (drop from (now (text .entry))) [] [] []) (now (parents .entry)) ⌝ }
 {
-    let mut new_fees = [0i64; 64];
-    let mut new_sizes = [0u64; 64];
-    let mut new_parents = [0u64; 64];
+    let mut new_fees = [0i64; POSITIONS];
+    let mut new_sizes = [0u64; POSITIONS];
+    let mut new_parents = [0u64; SET_WORDS];
     let mut at = from;
     let mut i: usize = 0;
     while i < n {
@@ -124,12 +126,12 @@ fn read_members(
 // The first n fees and sizes are written over those of the other arrays.
 fn copy_rates(
     n: usize,
-    new_fees: &[i64; 64],
-    new_sizes: &[u64; 64],
-    fees: &mut [i64; 64],
-    sizes: &mut [u64; 64],
+    new_fees: &[i64; POSITIONS],
+    new_sizes: &[u64; POSITIONS],
+    fees: &mut [i64; POSITIONS],
+    sizes: &mut [u64; POSITIONS],
 )
-    requires { ⌜ n ≤ 64 ⌝ }
+    requires { ⌜ n ≤ positions ⌝ }
     ensures { λ _. ⌜ now (fees .exit) ≡ take n (now («new_fees» .entry)) ++ drop n (now (fees .entry)) ⌝ }
     ensures { λ _. ⌜ now (sizes .exit) ≡ take n (now («new_sizes» .entry)) ++ drop n (now (sizes .entry)) ⌝ }
 {
@@ -141,8 +143,8 @@ fn copy_rates(
 }
 
 // The first n sets are written over those of the other array.
-fn copy_sets(n: usize, new_parents: &[u64; 64], parents: &mut [u64; 64])
-    requires { ⌜ n ≤ 64 ⌝ }
+fn copy_sets(n: usize, new_parents: &[u64; SET_WORDS], parents: &mut [u64; SET_WORDS])
+    requires { ⌜ n ≤ positions ⌝ }
     ensures { λ _. ⌜ now (parents .exit) ≡ take n (now («new_parents» .entry)) ++ drop n (now (parents .entry)) ⌝ }
 {
     let mut k: usize = 0;

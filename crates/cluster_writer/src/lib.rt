@@ -20,7 +20,7 @@ pub fn write_refusal(number: u64, out: &mut [u8; 8192]) -> usize
     number_line(b"answer=", number, out, 0)
 }
 
-// The answer line, the order and the lines of its chunks, whose lengths are `lens`. Where there are more than 64 members or chunks it
+// The answer line, the order and the lines of its chunks, whose lengths are `lens`. Where there are more members or chunks than positions it
 // writes nothing and answers 0.
 pub fn write_success(
     fees: &[i64],

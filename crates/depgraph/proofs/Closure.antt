@@ -12,7 +12,7 @@ use lib.Seq.{take-length, take-all, length-take-le, getD-take}
 use borrow.Author.Tests.{lt-ltb, le-ltb, eq-eqb, ne-eqb, eqb-true}
 use Rattle.txset.specs.declared.TxSet.{TxSet}
 use Rattle.lists.specs.Below.{anyFrom}
-use Rattle.txset.specs.Sets.{positions, isPosition, mem, setAt, putAt, Joined}
+use Rattle.txset.specs.Sets.{positions, isPosition, mem, setAt, putAt, Joined, setWords}
 use Rattle.lists.proofs.Numbers.{by-number, below-here, below-else, flip}
 use Rattle.ways.specs.Ways.{reach, isCyclic}
 use Rattle.lists.proofs.Ranges.{any-more}
@@ -46,8 +46,8 @@ pub taken-all : (ws : List ℕ) → length ws ≤ positions → Taken ws (length
 taken-all ws l = record { there = omega arith; fits = l; same = take-length ws ∙ sym (take-all positions ws l) }
 
 -- words of zeros hold nothing
-pub zeros-hold : Holds nothing (replicate positions 0) (replicate positions 0)
-zeros-hold = record { ups = refl; downs = refl; above = at-zeros positions; below = λ i a. at-zeros positions a i }
+pub zeros-hold : Holds nothing (replicate setWords 0) (replicate setWords 0)
+zeros-hold = record { ups = refl; downs = refl; above = at-zeros setWords; below = λ i a. at-zeros setWords a i }
 
 -- ---- link: the relation, of the members below i alone
 

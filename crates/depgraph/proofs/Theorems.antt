@@ -12,9 +12,9 @@ use borrow.Author.Tests.{lt-ltb, ltb-true}
 use Rattle.lists.specs.Below.{countFrom}
 use Rattle.lists.proofs.Bools.{and-both}
 use Rattle.lists.proofs.Below.{count-ext}
+use Rattle.txset.specs.Sets.{setWords}
 use Rattle.ways.proofs.Ways.{reach-is, is-reach, way-from, way-to}
 use Rattle.ways.proofs.Cycles as cycles
-use Rattle.txset.specs.Sets.{positions}
 use Rattle.txset.proofs.Words.{Fits}
 use Rattle.txset.proofs.Theorems.{sets-ext}
 use Rattle.depgraph.specs.declared.DepGraph.{DepGraph}
@@ -79,8 +79,8 @@ fewer ps i a acyclic u n =
 
 -- the tables of a graph, as a machine has them: 64 sets each, every one a word below 2^64
 pub record Tables (g : DepGraph) : Type 0 where
-  pub ancestors-long : length (g .ancestors) ≡ positions
-  pub descendants-long : length (g .descendants) ≡ positions
+  pub ancestors-long : length (g .ancestors) ≡ setWords
+  pub descendants-long : length (g .descendants) ≡ setWords
   pub ancestors-fit : Fits (g .ancestors)
   pub descendants-fit : Fits (g .descendants)
 

@@ -6,12 +6,12 @@ use mathlib.Core.List.{List}
 use lib.ListN.{length}
 use lib.Dec.{eqb, ltb}
 use Rattle.lists.specs.Below.{anyFrom}
-use Rattle.txset.specs.Sets.{positions, mem, setAt}
+use Rattle.txset.specs.Sets.{mem, setAt, setWords}
 
 -- the two lists of sets hold the relation f, once from each side: a is in the i-th set of `up`, and i in the a-th of `down`, exactly where f i a
 pub record Holds (f : ℕ → ℕ → Bool) (up down : List ℕ) : Type 0 where
-  pub ups : length up ≡ positions
-  pub downs : length down ≡ positions
+  pub ups : length up ≡ setWords
+  pub downs : length down ≡ setWords
   pub above : (i a : ℕ) → mem (setAt up i) a ≡ f i a
   pub below : (i a : ℕ) → mem (setAt down a) i ≡ f i a
 

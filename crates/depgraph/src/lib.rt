@@ -7,27 +7,29 @@ ghost use Rattle.txset.specs.Sets.{positions};
 ghost use Rattle.depgraph.specs.Graph.{isParent};
 ghost use Rattle.depgraph.specs.Closed.{Closed};
 ghost use Rattle.depgraph.specs.Steps.{Holds, nothing, Owning};
+use txset::POSITIONS;
+use txset::SET_WORDS;
 use txset::TxSet;
 
 // A set of ancestors and one of descendants for each position, each with the position itself; empty past the members.
 // `cyclic` says whether some member is above itself.
 pub struct DepGraph {
-    pub ancestors: [u64; 64],
-    pub descendants: [u64; 64],
+    pub ancestors: [u64; SET_WORDS],
+    pub descendants: [u64; SET_WORDS],
     pub cyclic: bool,
 }
 
 impl DepGraph {
-    // The graph of the first 64 of the members with these parents.
+    // The graph of the members with these parents, or of the first of them where they are more than the positions.
     pub fn new(parents: &[u64]) -> DepGraph
-        ensures { λ r. ⌜ Closed (take 64 (now (parents .entry))) r ⌝ }
+        ensures { λ r. ⌜ Closed (take positions (now (parents .entry))) r ⌝ }
     {
         let mut n = parents.len();
-        if 64 < n {
-            n = 64;
+        if POSITIONS < n {
+            n = POSITIONS;
         }
-        let mut ancestors = [0u64; 64];
-        let mut descendants = [0u64; 64];
+        let mut ancestors = [0u64; SET_WORDS];
+        let mut descendants = [0u64; SET_WORDS];
         link(parents, n, &mut ancestors, &mut descendants);
         close(n, &mut ancestors, &mut descendants);
         let cyclic = include_self(n, &mut ancestors, &mut descendants);

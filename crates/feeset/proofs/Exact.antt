@@ -5,6 +5,7 @@ use Prim.Native.Nat.{ℕ, _+_, _*_, _≤_, _<_, min}
 use native.Mathlib.Omega.{arith}
 use lib.IntN.{ℤ, pos, natAbs, _+ℤ_, +ℤ-idl, +ℤ-idr, +ℤ-assoc}
 use lib.ListN.{length, getD}
+use Rattle.txset.specs.Sets.{positions}
 use Rattle.feefrac.specs.declared.FeeFrac.{FeeFrac}
 use Rattle.feefrac.specs.Rate.{zeroRate, sum, rateAt}
 use Rattle.feefrac.proofs.Exact.{abs-sum, sum-exact, exactSum, sumOf, spread, feeLimit, Within, within-at}
@@ -43,7 +44,7 @@ module _ (fs : List ℤ) (ss : List ℕ) where
     at-spread (i ∷ is) = omega (arith, within-at fs within i, at-spread is)
 
     -- so it is for at most 64 positions and fees within the limit
-    pub total-fee : (is : List ℕ) → length is ≤ 64 → total fs ss is .fee ≡ exactSum (feesAt fs is)
+    pub total-fee : (is : List ℕ) → length is ≤ positions → total fs ss is .fee ≡ exactSum (feesAt fs is)
     total-fee is few = total-exact is (omega (arith, at-spread is))
 
 -- ---- sizes

@@ -39,17 +39,17 @@ module _ (fs : List ℤ) (ss A D order room : List ℕ) (r : Ready fs A order ro
       (nothing-behind (ancestorOrder fs ss (memAt A)) order (r .long))
 
   pub steps : (o mid last : List ℕ) (k : ℕ) (out : List ℕ) → o ≡ Candidates.filled fs ss (memAt A) order
-      → mid ≡ cond (leb (length o) 64) (backPass fs ss (memAt D) o) o
-      → last ≡ cond (leb (length mid) 64) (forwardPass fs ss (memAt A) mid) mid
+      → mid ≡ cond (leb (length o) positions) (backPass fs ss (memAt D) o) o
+      → last ≡ cond (leb (length mid) positions) (forwardPass fs ss (memAt A) mid) mid
       → k ≡ Output.written fs ss (memAt A) last room → out ≡ Output.filled fs ss (memAt A) last room
       → (k ≡ length (stepsOf fs ss (memAt A) (memAt D))) × (out ≡ stepsOf fs ss (memAt A) (memAt D) ++ drop k room)
   unfolding stepsOf Output.written Output.filled Output.fits
   steps o mid last k out e f g h w =
       let first : o ≡ ancestorOrder fs ss (memAt A) = taken o e in
       let n1 : length o ≡ length fs = ap length first ∙ as-many fs ss (memAt A) (r .own) in
-      let back : mid ≡ backPass fs ss (memAt D) (ancestorOrder fs ss (memAt A)) = f ∙ rw (le-leb (length o) 64 (omega (arith, r .few)), first) in
+      let back : mid ≡ backPass fs ss (memAt D) (ancestorOrder fs ss (memAt A)) = f ∙ rw (le-leb (length o) positions (omega (arith, r .few)), first) in
       let n2 : length mid ≡ length fs = ap length back ∙ back-same fs ss (memAt D) (ancestorOrder fs ss (memAt A)) .long ∙ as-many fs ss (memAt A) (r .own) in
-      let fore : last ≡ forwardPass fs ss (memAt A) (backPass fs ss (memAt D) (ancestorOrder fs ss (memAt A))) = g ∙ rw (le-leb (length mid) 64 (omega (arith, r .few)), back) in
+      let fore : last ≡ forwardPass fs ss (memAt A) (backPass fs ss (memAt D) (ancestorOrder fs ss (memAt A))) = g ∙ rw (le-leb (length mid) positions (omega (arith, r .few)), back) in
       let n3 : length last ≡ length fs =
       ap length fore ∙ forward-same fs ss (memAt A) (backPass fs ss (memAt D) (ancestorOrder fs ss (memAt A))) .long ∙ sym (ap length back) ∙ n2 in
       let fit : (leb (length fs) positions && (leb (length last) (length fs) && leb (length fs) (length room))) ≡ true =

@@ -42,7 +42,7 @@ pub fn linearize(fees: &[i64], sizes: &[u64], parents: &[u64], room: &mut [usize
     if graph.cyclic {
         return Reply::refused(refusals::CYCLE);
     }
-    let mut order = [0usize; 64];
+    let mut order = [0usize; POSITIONS];
     Reply::wrote(order_members(
         fees,
         sizes,

@@ -18,7 +18,7 @@ use Rattle.feefrac.specs.Rate.{rateAt}
 use Rattle.feefrac.proofs.Lists as rates'
 use Rattle.txset.specs.declared.TxSet.{TxSet}
 use Rattle.lists.specs.Lists.{anyOf, elem, highestOf}
-use Rattle.txset.specs.Sets.{positions, isPosition, mem, setAt, putAt}
+use Rattle.txset.specs.Sets.{positions, isPosition, mem, setAt, putAt, setWords}
 use Rattle.lists.proofs.Numbers.{lt-or-ge}
 use Rattle.txset.proofs.Sets.{put-same, put-other, length-put}
 use Rattle.feefrac.proofs.Exact.{sumOf}
@@ -113,12 +113,12 @@ within {n} i b h =
 pub record Cutting (n : ℕ) (ls order sets tops : List ℕ) (start k : ℕ) : Type 0 where
   pub up : k ≤ length ls
   pub from : start ≡ sumOf (take k ls)
-  pub sets-long : length sets ≡ positions
+  pub sets-long : length sets ≡ setWords
   pub tops-long : length tops ≡ positions
   pub sets-are : (j : ℕ) → j < k → (i : ℕ) → mem (setAt sets j) i ≡ (ltb i n && elem i (chunkAt (cut ls order) j))
   pub tops-are : (j : ℕ) → j < k → getD tops j 0 ≡ highestOf (chunkAt (cut ls order) j)
 
-pub cut-start : {n : ℕ} {ls order sets tops : List ℕ} → length sets ≡ positions → length tops ≡ positions → Cutting n ls order sets tops 0 0
+pub cut-start : {n : ℕ} {ls order sets tops : List ℕ} → length sets ≡ setWords → length tops ≡ positions → Cutting n ls order sets tops 0 0
 unfolding sumOf
 cut-start a b =
     record { up = omega arith; from = refl; sets-long = a; tops-long = b; sets-are = below-none _; tops-are = below-none _ }

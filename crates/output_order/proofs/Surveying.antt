@@ -14,7 +14,7 @@ use Rattle.feefrac.specs.Rate.{rateAt}
 use Rattle.txset.specs.declared.TxSet.{TxSet}
 use Rattle.lists.specs.Below.{keepIf, anyFrom, listFrom}
 use Rattle.lists.specs.Lists.{anyOf, elem}
-use Rattle.txset.specs.Sets.{positions, mem, members, isEmpty, lowestOf, setAt, putAt, memAt}
+use Rattle.txset.specs.Sets.{positions, mem, members, isEmpty, lowestOf, setAt, putAt, memAt, setWords}
 use Rattle.lists.proofs.Ranges.{list-below}
 use Rattle.txset.proofs.Sets.{length-put}
 use Rattle.txset.proofs.Walk.{walk-step, walk-done}
@@ -56,14 +56,14 @@ outsideOf ancestors n s a = (above ancestors (members s) a && ltb a n) && not (m
 
 -- the outside and the sum of each of the first k sets are written
 pub record Surveying (fs : List ℤ) (ss ancestors : List ℕ) (n : ℕ) (sets outsides : List ℕ) (sumFees : List ℤ) (sumSizes : List ℕ) (k : ℕ) : Type 0 where
-  pub outsides-long : length outsides ≡ positions
+  pub outsides-long : length outsides ≡ setWords
   pub fees-long : length sumFees ≡ positions
   pub sizes-long : length sumSizes ≡ positions
   pub outside : (j : ℕ) → j < k → (a : ℕ) → mem (setAt outsides j) a ≡ outsideOf ancestors n (setAt sets j) a
   pub rate : (j : ℕ) → j < k → rateAt sumFees sumSizes j ≡ total fs ss (members (setAt sets j))
 
 pub survey-start : {fs : List ℤ} {ss ancestors : List ℕ} {n : ℕ} {sets outsides : List ℕ} {sumFees : List ℤ} {sumSizes : List ℕ}
-    → (length outsides ≡ positions) × ((length sumFees ≡ positions) × (length sumSizes ≡ positions))
+    → (length outsides ≡ setWords) × ((length sumFees ≡ positions) × (length sumSizes ≡ positions))
     → Surveying fs ss ancestors n sets outsides sumFees sumSizes 0
 survey-start h =
     record { outsides-long = h .0; fees-long = h .1 .0; sizes-long = h .1 .1; outside = below-none _; rate = below-none _ }

@@ -5,7 +5,7 @@ ghost use mathlib.Core.List.{List};
 ghost use Prim.Native.Nat.{ℕ, _≤_, _<_};
 ghost use lib.ListN.{length};
 ghost use Rattle.lists.specs.Lists.{anyOf, elem, highestOf};
-ghost use Rattle.txset.specs.Sets.{positions, isPosition, mem, members, setAt, memAt};
+ghost use Rattle.txset.specs.Sets.{positions, setWords, isPosition, mem, members, setAt, memAt};
 ghost use Rattle.chunking.specs.Orders.{chunksOf};
 ghost use Rattle.output_order.specs.Output.{written, filled};
 ghost use Rattle.output_order.specs.Steps.{All, Cut, Surveyed};
@@ -17,6 +17,7 @@ use feefrac::is_greater;
 use feefrac::then_by;
 use feeset::set_feerate;
 use txset::POSITIONS;
+use txset::SET_WORDS;
 use txset::TxSet;
 
 // The best of some candidates, or that there is none.
@@ -32,7 +33,7 @@ struct Out {
 }
 
 // Writes the members of an order, as they are put out, to the start of the room, and answers how many there are. `ancestors` has a set
-// for each member. Where there are more than 64 members, a longer order or a shorter room, it writes nothing and answers 0.
+// for each member. Where there are more members than positions, a longer order or a shorter room, it writes nothing and answers 0.
 pub fn output_order(
     fees: &[i64],
     sizes: &[u64],
@@ -54,12 +55,12 @@ pub fn output_order(
         return 0;
     }
     let all = TxSet::full(n);
-    let mut sets = [0u64; 64];
-    let mut tops = [0usize; 64];
+    let mut sets = [0u64; SET_WORDS];
+    let mut tops = [0usize; POSITIONS];
     let count = cut(fees, sizes, all, order, &mut sets, &mut tops);
-    let mut outsides = [0u64; 64];
-    let mut sum_fees = [0i64; 64];
-    let mut sum_sizes = [0u64; 64];
+    let mut outsides = [0u64; SET_WORDS];
+    let mut sum_fees = [0i64; POSITIONS];
+    let mut sum_sizes = [0u64; POSITIONS];
     survey(
         fees,
         sizes,
@@ -107,10 +108,10 @@ fn cut(
 ) -> usize
     requires { ⌜ All (length (now fees)) all ⌝ }
     requires { ⌜ length (now order) ≤ length (now fees) ⌝ }
-    requires { ⌜ (length (now sets) ≡ positions) × (length (now tops) ≡ positions) ⌝ }
+    requires { ⌜ (length (now sets) ≡ setWords) × (length (now tops) ≡ positions) ⌝ }
     ensures { λ r. ⌜ Cut (length (now (fees .entry))) (chunksOf (now (fees .entry)) (now (sizes .entry)) (now (order .entry))) (now (sets .exit)) (now (tops .exit)) r ⌝ }
 {
-    let mut lens = [0usize; 64];
+    let mut lens = [0usize; POSITIONS];
     let count = order_lengths(fees, sizes, order, &mut lens);
     let mut start: usize = 0;
     let mut k: usize = 0;
@@ -169,7 +170,7 @@ fn survey(
 )
     requires { ⌜ All (length (now fees)) all ⌝ }
     requires { ⌜ count ≤ positions ⌝ }
-    requires { ⌜ (length (now outsides) ≡ positions) × ((length (now «sum_fees») ≡ positions) × (length (now «sum_sizes») ≡ positions)) ⌝ }
+    requires { ⌜ (length (now outsides) ≡ setWords) × ((length (now «sum_fees») ≡ positions) × (length (now «sum_sizes») ≡ positions)) ⌝ }
     ensures { λ _. ⌜ ((cs : List (List ℕ)) (tops : List ℕ) → Cut (length (now (fees .entry))) cs (now (sets .entry)) tops count → Surveyed (now (fees .entry)) (now (sizes .entry)) (length (now (fees .entry))) (memAt (now (ancestors .entry))) cs (now (outsides .exit)) (now («sum_fees» .exit)) (now («sum_sizes» .exit)) count) ⌝ }
 {
     let mut k: usize = 0;
@@ -302,7 +303,7 @@ fn next_member(
     held_choice(held)
 }
 
-// Nothing is held where the scan still has 64.
+// Nothing is held where the scan still has POSITIONS.
 fn held_choice(held: usize) -> Choice
     ensures { λ r. ⌜ chosen r ≡ heldOf held ⌝ }
 {

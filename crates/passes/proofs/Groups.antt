@@ -92,9 +92,13 @@ pub data Stack (place : ℕ → ℕ) (ws : List ℕ) (xs : List Summary) : List 
 abbrev pub Near : List ℕ → List Summary → List Group → Type 0
 Near = Stack (λ n. n)
 
--- from the end of an array of 64 downwards
+-- the last place of an array with one for each position
+abbrev pub last : ℕ
+last = positions - 1
+
+-- from that place downwards
 abbrev pub Far : List ℕ → List Summary → List Group → Type 0
-Far = Stack (λ n. 63 - n)
+Far = Stack (λ n. last - n)
 
 module _ {place : ℕ → ℕ} {ws : List ℕ} {xs : List Summary} where
   -- a store at none of its places leaves a stack as it is

@@ -10,11 +10,11 @@ use lib.Seq.{length-take-le, take-all, take-at, drop-at, take-suc, drop-cons, ge
 use borrow.Rule.Slice.PartMut.{midOf, putMid}
 use Rattle.feefrac.specs.declared.FeeFrac.{FeeFrac}
 use Rattle.feefrac.specs.Rate.{higher}
-use Rattle.txset.specs.Sets.{overlap, memAt}
+use Rattle.txset.specs.Sets.{overlap, memAt, positions}
 use Rattle.passes.specs.declared.pass.Group.{Group as Summary}
 use Rattle.passes.specs.Summary.{Joined}
 use Rattle.passes.specs.Pass.{Group, absorb, dependsOn, settle, alone, groupsAfter, flat, onePass}
-use Rattle.passes.proofs.Groups.{Stands, joined-stands, overlap-depends, Stack, none, more, Near, Far, stack-kept, stack-push}
+use Rattle.passes.proofs.Groups.{Stands, joined-stands, overlap-depends, Stack, none, more, Near, Far, stack-kept, stack-push, last}
 use Rattle.passes.proofs.Turns.{mid-at, put-at, length-rotated}
 
 -- ---- lists of groups
@@ -62,10 +62,10 @@ pub record Outer (rate : ℕ → FeeFrac) (ws order₀ order : List ℕ) (groups
   pub held : Held ws (groupsAfter rate (memAt ws) [] (take k order₀)) (drop k order₀) order groups count k
   pub within : k ≤ length order₀
   pub same : length order ≡ length order₀
-  pub small : length order ≤ 64
-  pub long : length groups ≡ 64
+  pub small : length order ≤ positions
+  pub long : length groups ≡ positions
 
-pub outer-start : (rate : ℕ → FeeFrac) (ws order : List ℕ) (groups : List Summary) → length groups ≡ 64 → length order ≤ 64
+pub outer-start : (rate : ℕ → FeeFrac) (ws order : List ℕ) (groups : List Summary) → length groups ≡ positions → length order ≤ positions
     → Outer rate ws order order groups 0 0
 unfolding groupsAfter flat
 outer-start rate ws order groups a h =
@@ -124,8 +124,8 @@ pub record Room (order : List ℕ) (cur : Summary) (below from ahead over : ℕ)
 pub record Inner (rate : ℕ → FeeFrac) (ws order₀ : List ℕ) (groups₀ : List Summary) (count k t : ℕ) (order : List ℕ) (groups : List Summary) (cur : Summary)
     (below from ahead over : ℕ) : Type 0 where
   pub same : length order ≡ length order₀
-  pub small : length order ≤ 64
-  pub long : length groups ≡ 64
+  pub small : length order ≤ positions
+  pub long : length groups ≡ positions
   pub room : Room order cur below from ahead over
   pub scan : (gs : List Group) (rest : List ℕ) → Held ws gs (t ∷ rest) order₀ groups₀ count k
       → Scan ws (settle (memAt ws) (alone rate t) gs) rest order groups cur below from ahead over
@@ -282,8 +282,8 @@ module _ {ws : List ℕ} {goal : List Group} {rest order : List ℕ} {groups : L
         }
 
     -- the current group leaves the one before it as it is
-    pub scan-step : higher (cur .rate) (prev .rate) ≡ true → overlap (cur .deps) (prev .set) ≡ false → length groups ≡ 64 → below + over < 64
-        → Scan ws goal rest order (set groups (63 - over) prev) cur (below - 1) (from - prev .len) (ahead + prev .len) (over + 1)
+    pub scan-step : higher (cur .rate) (prev .rate) ≡ true → overlap (cur .deps) (prev .set) ≡ false → length groups ≡ positions → below + over < positions
+        → Scan ws goal rest order (set groups (last - over) prev) cur (below - 1) (from - prev .len) (ahead + prev .len) (over + 1)
     unfolding flat behind
     scan-step h d l r =
         let s = u .state in
@@ -300,7 +300,7 @@ module _ {ws : List ℕ} {goal : List Group} {rest order : List ℕ} {groups : L
           os = u .p ∷ u .os;
           g = u .g;
           state = record {
-            under = stack-kept (63 - over) prev (λ n i e. omega (arith, s .low)) (u .under);
+            under = stack-kept (last - over) prev (λ n i e. omega (arith, s .low)) (u .under);
             gone = rw (s .high) (stack-push (s .gone) (omega (arith, s .high)) (λ n i e. omega (arith, s .high)) (u .top));
             current = s .current;
             low = omega (arith, s .low);
@@ -333,7 +333,7 @@ module _ {ws : List ℕ} {goal : List Group} {rest order : List ℕ} {groups : L
   comes-to : reverseAux (v .os) (v .g ∷ v .bs) ≡ goal
   comes-to = ap (reverseAux (v .os)) (sym (v .settled)) ∙ v .state .comes
 
-  pub placed : length groups ≡ 64 → below + over < 64 → Back ws goal (set groups below cur) (below + 1) over
+  pub placed : length groups ≡ positions → below + over < positions → Back ws goal (set groups below cur) (below + 1) over
   placed l r =
       let s = v .state in
       record {
@@ -359,12 +359,12 @@ module _ {ws : List ℕ} {goal : List Group} {rest order : List ℕ} {groups : L
       ∙ ap (λ (l : List ℕ). l ++ rest) (sym (flat-back (v .os) (v .g ∷ v .bs)) ∙ ap flat comes-to)
 
 pub back-turn : {ws : List ℕ} {goal : List Group} {groups : List Summary} {count over : ℕ} (d : Summary)
-    → Back ws goal groups count over → 0 < over → length groups ≡ 64 → count + over ≤ 64
-    → Back ws goal (set groups count (getD groups (63 - (over - 1)) d)) (count + 1) (over - 1)
+    → Back ws goal groups count over → 0 < over → length groups ≡ positions → count + over ≤ positions
+    → Back ws goal (set groups count (getD groups (last - (over - 1)) d)) (count + 1) (over - 1)
 back-turn {ws} {goal} {groups} {count} {over} d v h l r = go (v .gone) (v .high) (v .comes)
   where
     go : {os : List Group} → Far ws groups os → over ≡ length os → reverseAux os (v .bs) ≡ goal
-        → Back ws goal (set groups count (getD groups (63 - (over - 1)) d)) (count + 1) (over - 1)
+        → Back ws goal (set groups count (getD groups (last - (over - 1)) d)) (count + 1) (over - 1)
     go none e z = absurd (omega arith)
     go (more p os n t w) e z =
         let i : over - 1 ≡ length os = omega arith in
@@ -372,7 +372,7 @@ back-turn {ws} {goal} {groups} {count} {over} d v h l r = go (v .gone) (v .high)
           bs = p ∷ v .bs;
           os = os;
           under = rw (v .low) (stack-push (v .under) (omega (arith, v .low)) (λ n j x. omega arith) (rw i (t d)));
-          gone = stack-kept count (getD groups (63 - (over - 1)) d) (λ n j x. omega arith) w;
+          gone = stack-kept count (getD groups (last - (over - 1)) d) (λ n j x. omega arith) w;
           low = omega (arith, v .low);
           high = i;
           comes = z;
@@ -411,7 +411,7 @@ module _ {rate : ℕ → FeeFrac} {ws order₀ order : List ℕ} {groups : List 
   pub outer-again : {order′ : List ℕ} {groups′ : List Summary} {count′ : ℕ}
       → (Near ws groups′ (settle (memAt ws) (alone rate (getD order k 0)) gs)) × (count′ ≡ length (settle (memAt ws) (alone rate (getD order k 0)) gs))
       → order′ ≡ flat (settle (memAt ws) (alone rate (getD order k 0)) gs) ++ drop (k + 1) order₀
-      → length order′ ≡ length order → length groups′ ≡ 64 → Outer rate ws order₀ order′ groups′ count′ (k + 1)
+      → length order′ ≡ length order → length groups′ ≡ positions → Outer rate ws order₀ order′ groups′ count′ (k + 1)
   outer-again {order′} {groups′} {count′} b e same long =
       let goal = settle (memAt ws) (alone rate (getD order k 0)) gs in
       let is : groupsAfter rate (memAt ws) [] (take (k + 1) order₀) ≡ goal =
@@ -477,13 +477,13 @@ module _ {rate : ℕ → FeeFrac} {ws order₀ : List ℕ} {groups₀ : List Sum
       }
 
   pub inner-step : higher (cur .rate) (prev .rate) ≡ true → overlap (cur .deps) (prev .set) ≡ false
-      → Inner rate ws order₀ groups₀ count k t order (set groups (63 - over) prev) cur (below - 1) (from - prev .len) (ahead + prev .len) (over + 1)
+      → Inner rate ws order₀ groups₀ count k t order (set groups (last - over) prev) cur (below - 1) (from - prev .len) (ahead + prev .len) (over + 1)
   inner-step h o =
-      let apart : below + over < 64 = omega (arith, v .room .few, v .small) in
+      let apart : below + over < positions = omega (arith, v .room .few, v .small) in
       record {
         same = v .same;
         small = v .small;
-        long = length-set groups (63 - over) prev ∙ v .long;
+        long = length-set groups (last - over) prev ∙ v .long;
         room = scan-room (scan-step (uncover d (v .scan gs rest held) some) h o (v .long) apart);
         scan = λ gs rest held. scan-step (uncover d (v .scan gs rest held) some) h o (v .long) apart;
       }
@@ -523,20 +523,20 @@ module _ {rate : ℕ → FeeFrac} {ws order₀ : List ℕ} {groups₀ : List Sum
 
 -- at the head of the loop that puts the groups stepped over back: whatever the groups are
 pub record Moved (ws : List ℕ) (groups₀ : List Summary) (count₀ over₀ : ℕ) (groups : List Summary) (count over : ℕ) : Type 0 where
-  pub long : length groups ≡ 64
-  pub room : count + over ≤ 64
+  pub long : length groups ≡ positions
+  pub room : count + over ≤ positions
   pub back : (goal : List Group) → Back ws goal groups₀ count₀ over₀ → Back ws goal groups count over
 
-pub moved-start : {ws : List ℕ} {groups : List Summary} {count over : ℕ} → length groups ≡ 64 → count + over ≤ 64
+pub moved-start : {ws : List ℕ} {groups : List Summary} {count over : ℕ} → length groups ≡ positions → count + over ≤ positions
     → Moved ws groups count over groups count over
 moved-start l r = record { long = l; room = r; back = λ goal b. b }
 
 pub moved-turn : {ws : List ℕ} {groups₀ : List Summary} {count₀ over₀ : ℕ} {groups : List Summary} {count over : ℕ} (d : Summary)
     → Moved ws groups₀ count₀ over₀ groups count over → 0 < over
-    → Moved ws groups₀ count₀ over₀ (set groups count (getD groups (63 - (over - 1)) d)) (count + 1) (over - 1)
+    → Moved ws groups₀ count₀ over₀ (set groups count (getD groups (last - (over - 1)) d)) (count + 1) (over - 1)
 moved-turn {groups = groups} {count = count} {over = over} d v h =
     record {
-      long = length-set groups count (getD groups (63 - (over - 1)) d) ∙ v .long;
+      long = length-set groups count (getD groups (last - (over - 1)) d) ∙ v .long;
       room = omega (arith, v .room);
       back = λ goal b. back-turn d (v .back goal b) h (v .long) (v .room);
     }

@@ -17,6 +17,7 @@ use Rattle.feefrac.proofs.Exact.{far, far-append, Sums, fees-one, fees-both, si
 use Rattle.lists.specs.Below.{bit}
 use Rattle.lists.specs.Lists.{elem, anyOf, distinct}
 use Rattle.lists.proofs.Lists.{each-mem, Each}
+use Rattle.txset.specs.Sets.{positions}
 use Rattle.txset.proofs.Words.{Fits}
 use Rattle.passes.specs.Pass.{Group, absorb, dependsOn, settle, alone, groupsAfter, flat, onePass, backPass, forwardPass}
 
@@ -230,10 +231,10 @@ module _ (rate : ℕ → FeeFrac) where
       near-far [] = omega arith
       near-far (t ∷ ts) = omega (arith, near t, near-far ts)
 
-      pub pass-sums : (order : List ℕ) → length order ≤ 64 → (g : Group) → List·Memᴰ g (groupsAfter rate dep [] order) → GroupSums rate g
+      pub pass-sums : (order : List ℕ) → length order ≤ positions → (g : Group) → List·Memᴰ g (groupsAfter rate dep [] order) → GroupSums rate g
       pass-sums order few = each-mem (GroupSums rate) (groupsAfter rate dep [] order) (pass-exact order (omega (arith, near-far order)))
 
-      pub next-sums : (before : List ℕ) (t : ℕ) → length before < 64
+      pub next-sums : (before : List ℕ) (t : ℕ) → length before < positions
           → (g : Group) → List·Memᴰ g (settling dep (alone rate t) (groupsAfter rate dep [] before)) → GroupSums rate g
       next-sums before t few =
           each-mem (GroupSums rate) (settling dep (alone rate t) (groupsAfter rate dep [] before))
@@ -249,12 +250,12 @@ module _ (fs : List ℤ) (ss : List ℕ) (within : Within fs) (fits : Fits ss) w
 
   -- every group of the forward pass, and the next member's while it settles
   module _ (anc : ℕ → ℕ → Bool) where
-    pub forward-sums : (order : List ℕ) → length order ≤ 64
+    pub forward-sums : (order : List ℕ) → length order ≤ positions
         → (g : Group) → List·Memᴰ g (groupsAfter (rateAt fs ss) anc [] order) → GroupSums (rateAt fs ss) g
     unfolding rateAt
     forward-sums = pass-sums (rateAt fs ss) fits anc (within-at fs within)
 
-    pub forward-next : (before : List ℕ) (t : ℕ) → length before < 64
+    pub forward-next : (before : List ℕ) (t : ℕ) → length before < positions
         → (g : Group) → List·Memᴰ g (settling anc (alone (rateAt fs ss) t) (groupsAfter (rateAt fs ss) anc [] before)) → GroupSums (rateAt fs ss) g
     unfolding rateAt
     forward-next = next-sums (rateAt fs ss) fits anc (within-at fs within)
@@ -271,10 +272,10 @@ module _ (fs : List ℤ) (ss : List ℕ) (within : Within fs) (fits : Fits ss) w
   turned-near t = omega (arith, ap natAbs (negated-fee t), abs-neg (getD fs t (pos 0)), within-at fs within t)
 
   module _ (desc : ℕ → ℕ → Bool) where
-    pub back-sums : (order : List ℕ) → length order ≤ 64
+    pub back-sums : (order : List ℕ) → length order ≤ positions
         → (g : Group) → List·Memᴰ g (groupsAfter turned desc [] (reverse order)) → GroupSums turned g
     back-sums order few = pass-sums turned turned-fits desc turned-near (reverse order) (omega (arith, length-reverse order))
 
-    pub back-next : (before : List ℕ) (t : ℕ) → length before < 64
+    pub back-next : (before : List ℕ) (t : ℕ) → length before < positions
         → (g : Group) → List·Memᴰ g (settling desc (alone turned t) (groupsAfter turned desc [] before)) → GroupSums turned g
     back-next = next-sums turned turned-fits desc turned-near

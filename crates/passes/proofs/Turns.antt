@@ -11,6 +11,7 @@ use lib.Seq.{ext-getD, length-take-le, take-all, take-at, drop-at, getD-at, getD
 use lib.Dec.{leb}
 use borrow.Rule.Slice.PartMut.{midOf, putMid, same-len-mid}
 use Rattle.lists.proofs.Numbers.{lt-or-ge}
+use Rattle.txset.specs.Sets.{positions}
 
 -- the turned list at j is the list at the same distance from its end
 pub getD-reverse : (l : List ℕ) (j : ℕ) → j < length l → getD (reverse l) j 0 ≡ getD l (length l - 1 - j) 0
@@ -141,12 +142,12 @@ pub rotated-all : (l : List ℕ) {k : ℕ} → length l ≤ k → l ≡ drop k l
 rotated-all l {k} h = rw (drop-of-length-le l h, take-all k l h)
 
 -- f on a list turned, and turned back, where the list is short enough
-pub turned-back : (f : List ℕ → List ℕ) (l : List ℕ) {a b r : List ℕ} → a ≡ reverse l → b ≡ cond (leb (length a) 64) (f a) a → r ≡ reverse b
-    → r ≡ cond (leb (length l) 64) (reverse (f (reverse l))) l
+pub turned-back : (f : List ℕ → List ℕ) (l : List ℕ) {a b r : List ℕ} → a ≡ reverse l → b ≡ cond (leb (length a) positions) (f a) a → r ≡ reverse b
+    → r ≡ cond (leb (length l) positions) (reverse (f (reverse l))) l
 turned-back f l d e n =
-    n ∙ ap reverse (e ∙ ap (λ (m : List ℕ). cond (leb (length m) 64) (f m) m) d)
-    ∙ ap (λ (k : ℕ). reverse (cond (leb k 64) (f (reverse l)) (reverse l))) (length-reverse l)
-    ∙ go (leb (length l) 64)
+    n ∙ ap reverse (e ∙ ap (λ (m : List ℕ). cond (leb (length m) positions) (f m) m) d)
+    ∙ ap (λ (k : ℕ). reverse (cond (leb k positions) (f (reverse l)) (reverse l))) (length-reverse l)
+    ∙ go (leb (length l) positions)
   where
     go : (t : Bool) → reverse (cond t (f (reverse l)) (reverse l)) ≡ cond t (reverse (f (reverse l))) l
     go true = refl

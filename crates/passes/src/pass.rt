@@ -1,19 +1,23 @@
 // One pass. The groups stand in an array from its start, the last on top; those that the current group stepped over wait
-// at the array's end, the last one lowest. The two never meet: besides the current group there are fewer than 64 of both
-// together. The members of all groups stand in the list itself, one group after the other, so that a merge moves nothing
+// at the array's end, the last one lowest. The two never meet: besides the current group there are fewer of both together
+// than positions. The members of all groups stand in the list itself, one group after the other, so that a merge moves nothing
 // and a group that steps forward is one rotation.
 ghost use mathlib.Core.Path.{_≡_};
 ghost use Prim.Native.Nat.{_+_, _<_};
 ghost use lib.ListN.{length};
 ghost use lib.Dec.{leb};
 ghost use mathlib.Core.Bool.{cond};
-ghost use Rattle.txset.specs.Sets.{memAt};
+ghost use Rattle.txset.specs.Sets.{positions, memAt};
 ghost use Rattle.passes.specs.Pass.{onePass};
 ghost use Rattle.passes.specs.Turned.{turned};
 ghost use Rattle.passes.specs.Summary.{Single, Joined};
 use crate::moves;
 use feefrac::FeeFrac;
+use txset::POSITIONS;
 use txset::TxSet;
+
+// The last place of an array with one for each position.
+const LAST: usize = POSITIONS - 1;
 
 // A run of the list: how many members, which they are, on what they depend, and their feerate sum.
 pub struct Group {
@@ -72,16 +76,16 @@ fn feerate(fees: &[i64], sizes: &[u64], back: bool, t: usize) -> FeeFrac
     rate
 }
 
-// A list of more than 64 stays as it is.
+// A list longer than a set has positions stays as it is.
 pub fn one_pass(fees: &[i64], sizes: &[u64], deps: &[u64], back: bool, order: &mut [usize])
-    ensures { λ _. ⌜ now (order .exit) ≡ cond (leb (length (now (order .entry))) 64) (onePass (turned back (now (fees .entry)) (now (sizes .entry))) (memAt (now (deps .entry))) (now (order .entry))) (now (order .entry)) ⌝ }
+    ensures { λ _. ⌜ now (order .exit) ≡ cond (leb (length (now (order .entry))) positions) (onePass (turned back (now (fees .entry)) (now (sizes .entry))) (memAt (now (deps .entry))) (now (order .entry))) (now (order .entry)) ⌝ }
 {
     let n = order.len();
-    if 64 < n {
+    if POSITIONS < n {
         return;
     }
     let none = Group::none();
-    let mut groups = [none; 64];
+    let mut groups = [none; POSITIONS];
     let mut count: usize = 0;
     let mut k: usize = 0;
     while k < n {
@@ -111,7 +115,7 @@ pub fn one_pass(fees: &[i64], sizes: &[u64], deps: &[u64], back: bool, order: &m
                 cur = cur.absorb_before(prev);
                 ahead = 0;
             } else {
-                groups[63 - over] = prev;
+                groups[LAST - over] = prev;
                 over += 1;
                 ahead += prev.len;
             }
@@ -122,7 +126,7 @@ pub fn one_pass(fees: &[i64], sizes: &[u64], deps: &[u64], back: bool, order: &m
         count = at + 1;
         while 0 < over {
             over -= 1;
-            let prev = groups[63 - over];
+            let prev = groups[LAST - over];
             groups[count] = prev;
             count += 1;
         }

@@ -30,8 +30,8 @@ module _ (m n k : ℕ) where
 -- ---- the graph
 
 -- at most 64 members: the graph is that of all of them
-pub whole : (ps : List ℕ) (g : DepGraph) → length ps ≤ positions → Closed (take 64 ps) g → Closed ps g
-whole ps g h c = subst (λ (l : List ℕ). Closed l g) (take-all 64 ps h) c
+pub whole : (ps : List ℕ) (g : DepGraph) → length ps ≤ positions → Closed (take positions ps) g → Closed ps g
+whole ps g h c = subst (λ (l : List ℕ). Closed l g) (take-all positions ps h) c
 
 module _ {ps : List ℕ} {g : DepGraph} (c : Closed ps g) where
   pub ancestors-are : (λ (t : ℕ). mem (setAt (g .ancestors) t)) ≡ isAncestor ps

@@ -17,11 +17,11 @@ use Rattle.post_linearize.specs.PostLinearize.{postLinearize}
 -- what the two passes leave of a list of at most 64
 module _ (fs : List ℤ) (ss ps order : List ℕ) (anc desc : ℕ → ℕ → Bool) (h : length order ≤ positions) where
   pub passes : anc ≡ isAncestor ps → desc ≡ isDescendant ps → (mid out : List ℕ)
-      → mid ≡ cond (leb (length order) 64) (backPass fs ss desc order) order
-      → out ≡ cond (leb (length mid) 64) (forwardPass fs ss anc mid) mid → out ≡ postLinearize fs ss ps order
+      → mid ≡ cond (leb (length order) positions) (backPass fs ss desc order) order
+      → out ≡ cond (leb (length mid) positions) (forwardPass fs ss anc mid) mid → out ≡ postLinearize fs ss ps order
   unfolding postLinearize
   passes p q mid out m o =
-      let back : mid ≡ backPass fs ss (isDescendant ps) order = m ∙ rw (le-leb (length order) 64 h, q) in
-      let long : length mid ≤ 64 = omega (arith, ap length back, back-same fs ss (isDescendant ps) order .long) in
-      let fore : out ≡ forwardPass fs ss (isAncestor ps) (backPass fs ss (isDescendant ps) order) = o ∙ rw (le-leb (length mid) 64 long, p, back) in
+      let back : mid ≡ backPass fs ss (isDescendant ps) order = m ∙ rw (le-leb (length order) positions h, q) in
+      let long : length mid ≤ positions = omega (arith, ap length back, back-same fs ss (isDescendant ps) order .long) in
+      let fore : out ≡ forwardPass fs ss (isAncestor ps) (backPass fs ss (isDescendant ps) order) = o ∙ rw (le-leb (length mid) positions long, p, back) in
       fore

@@ -86,7 +86,7 @@ pub fn first_outside(fees: &[i64]) -> usize
     i
 }
 
-// Whether a list has each of the positions 0..n-1 once; false where n is above 64.
+// Whether a list has each of the positions 0..n-1 once; false where n is above POSITIONS.
 pub fn is_order(n: usize, order: &[usize]) -> bool
     ensures { λ r. ⌜ r ≡ (leb n positions && isOrder n (now (order .entry))) ⌝ }
 {

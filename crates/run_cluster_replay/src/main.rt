@@ -9,6 +9,8 @@ use cluster_reader::Input;
 use libc::STDIN_FILENO;
 use libc::STDOUT_FILENO;
 use refusals::Reply;
+use txset::POSITIONS;
+use txset::SET_WORDS;
 
 enum Call {
     Linearize,
@@ -133,7 +135,7 @@ fn call_of(line: &[u8]) -> Call {
 
 // A call that writes its answer to a room, which has a place for each position.
 fn fresh_case(call: Call, text: &[u8]) {
-    let mut room = [0usize; 64];
+    let mut room = [0usize; POSITIONS];
     cluster_case(call, text, &mut room);
 }
 
@@ -141,12 +143,12 @@ fn fresh_case(call: Call, text: &[u8]) {
 fn order_case(text: &[u8]) {
     let end = line_end(text, 0);
     let next = behind(text, end);
-    let mut order = [0usize; 64];
+    let mut order = [0usize; POSITIONS];
     let Lent::Positions(n) = read_order(&text[..end], &mut order) else {
         put(b"unknown case\n");
         return;
     };
-    let count = least(n, 64);
+    let count = least(n, POSITIONS);
     cluster_case(Call::PostLinearize, &text[next..], &mut order[..count]);
 }
 
@@ -216,9 +218,9 @@ fn digit_of(b: u8) -> usize
 // ---- a case's call
 
 fn cluster_case(call: Call, text: &[u8], room: &mut [usize]) {
-    let mut fees = [0i64; 64];
-    let mut sizes = [0u64; 64];
-    let mut parents = [0u64; 64];
+    let mut fees = [0i64; POSITIONS];
+    let mut sizes = [0u64; POSITIONS];
+    let mut parents = [0u64; SET_WORDS];
     let input = cluster_reader::read_cluster(text, &mut fees, &mut sizes, &mut parents);
     match input {
         Input::Malformed => put_refusal(refusals::INPUT_ILL_FORMED),
@@ -264,8 +266,11 @@ fn least(count: usize, most: usize) -> usize
 // The order, and the lengths of its chunks.
 fn put_order(fees: &[i64], sizes: &[u64], order: &[usize]) {
     put_numbers(b"order=", order);
-    let mut lens = [0usize; 64];
-    let n = least(chunking::order_lengths(fees, sizes, order, &mut lens), 64);
+    let mut lens = [0usize; POSITIONS];
+    let n = least(
+        chunking::order_lengths(fees, sizes, order, &mut lens),
+        POSITIONS,
+    );
     put_numbers(b"chunks=", &lens[..n]);
 }
 

@@ -9,7 +9,7 @@ use lib.Dec.{eqb, ltb}
 use lib.ListN.{length}
 use borrow.Author.Tests.{lt-ltb, le-ltb, eq-eqb, ne-eqb}
 use Rattle.txset.specs.declared.TxSet.{TxSet}
-use Rattle.txset.specs.Sets.{positions, isPosition, mem, isEmpty, lowestOf, setAt, putAt, Joined}
+use Rattle.txset.specs.Sets.{positions, isPosition, mem, isEmpty, lowestOf, setAt, putAt, Joined, setWords}
 use Rattle.lists.proofs.Numbers.{lt-or-ge, by-number, below-here, below-else}
 use Rattle.txset.proofs.Sets.{mem-past, empty-mem, length-put, put-at, put-else, at-past}
 use Rattle.txset.proofs.Walk.{lowest-mem}
@@ -87,7 +87,7 @@ join-done {walk} {extra} {old} {new} {rest} e j =
     }
 
 -- a list with a set for each position has one for each of the walk, so there the join is one at every i
-pub joined-at : {walk extra : TxSet} {old new : List ℕ} → positions ≤ length old → Joined walk extra old new
+pub joined-at : {walk extra : TxSet} {old new : List ℕ} → setWords ≤ length old → Joined walk extra old new
     → (i a : ℕ) → mem (setAt new i) a ≡ (mem (setAt old i) a || (mem walk i && mem extra a))
 joined-at {walk} {extra} {old} {new} n j i a =
     ⊎-elim
@@ -105,7 +105,7 @@ pub turned-none : (f : ℕ → ℕ → Bool) (ws : List ℕ) → ((a j : ℕ) �
 turned-none f ws h a j = h a j ∙ ap (λ (b : Bool). b && f j a) (sym (le-ltb j 0 (omega arith)))
 
 -- the next, i, is joined to the sets of its own a
-pub turned-more : (f : ℕ → ℕ → Bool) (i : ℕ) (own single : TxSet) {old new : List ℕ} → i < positions → positions ≤ length old
+pub turned-more : (f : ℕ → ℕ → Bool) (i : ℕ) (own single : TxSet) {old new : List ℕ} → i < positions → setWords ≤ length old
     → ((a : ℕ) → mem own a ≡ f i a) → ((j : ℕ) → mem single j ≡ (isPosition j && eqb j i)) → Joined own single old new
     → ((a j : ℕ) → mem (setAt old a) j ≡ (ltb j i && f j a)) → (a j : ℕ) → mem (setAt new a) j ≡ (ltb j (i + 1) && f j a)
 turned-more f i own single l long has-own has-i join h a j =

@@ -1,6 +1,6 @@
 -- Document 01, module 2 (TxSet): a set of positions 0..63, by its members alone.
--- Membership is defined over any number of words. How many a TxSet has is said in `words` and `positions`; bounds and arrays of the
--- crates above name 64.
+-- Membership is defined over any number of words. How many a TxSet has is said in `words`, `positions` and `setWords`; bounds and arrays
+-- of the crates above are named by these.
 -- Assumes nothing.
 use Prim.Native.Nat.{ℕ, _/_, _%_, _^_, _<_}
 use mathlib.Core.Path.{_≡_}
@@ -26,6 +26,10 @@ words s = s .word ∷ []
 -- "Positions 0..63."
 abbrev pub positions : ℕ
 positions = 64
+
+-- how many words a list has that holds a set for each position
+abbrev pub setWords : ℕ
+setWords = positions
 
 -- whether position i is in s
 unfoldable pub mem : TxSet → ℕ → Bool

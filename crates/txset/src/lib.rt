@@ -9,6 +9,9 @@ ghost use Rattle.txset.specs.Sets.{mem, isPosition, size, isEmpty, isSub
 // How many positions a set can hold.
 pub const POSITIONS: usize = 64;
 
+// How many words an array has that holds a set for each position.
+pub const SET_WORDS: usize = POSITIONS;
+
 pub struct TxSet {
     pub word: u64,
 }
@@ -110,7 +113,7 @@ impl TxSet {
         u64::count_ones(self.word) as usize
     }
 
-    // The lowest member, or 64 where there is none. With `without_lowest` it walks the members upwards.
+    // The lowest member, or POSITIONS where there is none. With `without_lowest` it walks the members upwards.
     pub fn lowest(self) -> usize
         ensures { λ r. ⌜ r ≡ lowestOf self ⌝ }
     {

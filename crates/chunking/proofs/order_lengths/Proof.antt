@@ -4,6 +4,7 @@ use mathlib.Core.Path.{_≡_, sym}
 use lib.ListN.{length, take}
 use lib.Seq.{length-take-le}
 use borrow.Author.Needs.{needs}
+use Rattle.txset.specs.Sets.{positions}
 use Rattle.chunking.proofs.Orders.{lengths-left, too-long, cramped, gathered-lengths, same-long}
 use Rattle.chunking.proofs.order_lengths.Statement.{statement}
 use Rattle.chunking.proofs.order_lengths.Tie as tie
@@ -13,7 +14,7 @@ module _ (c : tie.After-gather) where
   abbrev start : tie.Start
   start = c .before .before .before .before .before .before .before .before
 
-  few : length (start .args .order .now) ≤ 64
+  few : length (start .args .order .now) ≤ positions
   few = c .before .before .before .before .if1 .left
 
   wide : length (start .args .order .now) ≤ length (start .args .lens .now)

@@ -114,7 +114,7 @@ returns-8 c =
     refuses-keeps _ _ _ _ (stop (past-4 (d .before .before .before)) (sym (graph d .cyclic) ∙ c .before .if8 .taken)) (c .refused6 .ensures)
 
 abbrev zeros : List ℕ
-zeros = replicate 64 0
+zeros = replicate positions 0
 
 -- the list that takes the order is as long as the members are many
 own-length : (e : tie.Else5) → length (take (length (start e .args .fees .now)) zeros) ≡ length (start e .args .fees .now)

@@ -5,6 +5,7 @@ use native.Mathlib.Omega.{arith}
 use lib.ListN.{length-set}
 use borrow.Author.Needs.{needs}
 use borrow.Author.Tests.{not-true, not-false, le-leb, lt-leb}
+use Rattle.txset.specs.Sets.{positions}
 use Rattle.passes.specs.Turned.{turned}
 use Rattle.passes.proofs.Groups.{single-stands}
 use Rattle.passes.proofs.Scan.{Outer, Inner, Moved, outer-start, outer-next, outer-again, outer-done, inner-start, inner-len, inner-merge, inner-step}
@@ -43,7 +44,7 @@ stopped c =
     (c .if2 .came)
 
 returns : tie.Need-returns Inv-loop2 μ-loop2 Inv-loop3 μ-loop3 Inv-loop μ-loop
-returns c = rw (lt-leb _ 64 (c .if1 .taken))
+returns c = rw (lt-leb _ positions (c .if1 .taken))
 
 loop-holds : tie.Need-loop-holds Inv-loop2 μ-loop2 Inv-loop3 μ-loop3 Inv-loop μ-loop
 loop-holds c = outer-start _ _ _ _ refl (c .before .if1 .left)
@@ -94,7 +95,7 @@ loop2-again-2 c =
 
 -- the index at which the current group is stored
 at-small : (c : tie.After-row-known Inv-loop2 μ-loop2 Inv-loop3 μ-loop3 Inv-loop μ-loop)
-    → c .before .before .before .before .before .before .if2 .at < 64
+    → c .before .before .before .before .before .before .if2 .at < positions
 at-small c =
     let end = c .before .before .before .before .before .before in
     omega (arith, stopped-at (stopped end), end .before .loop2 .inv)
@@ -128,7 +129,7 @@ same-length : tie.Need-same-length Inv-loop2 μ-loop2 Inv-loop3 μ-loop3 Inv-loo
 same-length c = c .before .loop .inv .same
 
 returns-2 : tie.Need-returns-2 Inv-loop2 μ-loop2 Inv-loop3 μ-loop3 Inv-loop μ-loop
-returns-2 c = rw (le-leb _ 64 (c .before .before .before .if1 .left)) (outer-done (c .before .loop .inv) (c .loop-test .left))
+returns-2 c = rw (le-leb _ positions (c .before .before .before .if1 .left)) (outer-done (c .before .loop .inv) (c .loop-test .left))
 
 pub one-pass-spec : {M : Type 1} → statement M
 one-pass-spec =
