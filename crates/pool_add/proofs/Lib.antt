@@ -1,0 +1,3 @@
+pub mod Links
+pub mod Written
+pub mod Limits
