@@ -77,26 +77,18 @@ afterAdd t e listed = keptUnless (addRefusals t e listed) t (tableOf (added (poo
 -- ---- remove and set-cost: "remove and set-cost 12, 10"
 
 -- 10: "txid not in the pool"
-abbrev pub absent : List ℕ → Txid → Line
-absent t x = line 10 (not (isIn (poolOf t) x))
+unfoldable pub namedRefusals : List ℕ → Txid → List Line
+namedRefusals t x = broken t ∷ line 10 (not (isIn (poolOf t) x)) ∷ []
 
-unfoldable pub removeRefusals : List ℕ → Txid → List Line
-removeRefusals t x = broken t ∷ absent t x ∷ []
-
-unfoldable pub removeReply : List ℕ → Txid → Placed
-removeReply t x = replyOf noSlot (removeRefusals t x) (placed (slotOf (poolOf t) x))
+-- both answer the slot
+unfoldable pub namedReply : List ℕ → Txid → Placed
+namedReply t x = replyOf noSlot (namedRefusals t x) (placed (slotOf (poolOf t) x))
 
 unfoldable pub afterRemove : List ℕ → Txid → List ℕ
-afterRemove t x = keptUnless (removeRefusals t x) t (tableOf (removed (poolOf t) (slotOf (poolOf t) x)))
-
-unfoldable pub costRefusals : List ℕ → Txid → List Line
-costRefusals t x = broken t ∷ absent t x ∷ []
-
-unfoldable pub costReply : List ℕ → Txid → Placed
-costReply t x = replyOf noSlot (costRefusals t x) (placed (slotOf (poolOf t) x))
+afterRemove t x = keptUnless (namedRefusals t x) t (tableOf (removed (poolOf t) (slotOf (poolOf t) x)))
 
 unfoldable pub afterSetCost : List ℕ → Txid → ℕ → List ℕ
-afterSetCost t x c = keptUnless (costRefusals t x) t (tableOf (costSet (poolOf t) (slotOf (poolOf t) x) c))
+afterSetCost t x c = keptUnless (namedRefusals t x) t (tableOf (costSet (poolOf t) (slotOf (poolOf t) x) c))
 
 -- ---- clear and totals: "clear and totals 12"
 

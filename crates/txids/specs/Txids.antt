@@ -6,7 +6,6 @@ use mathlib.Core.Bool.{Bool, true, false, cond}
 use mathlib.Core.List.{List, [], _∷_}
 use lib.Dec.{eqb, ltb}
 use lib.ListN.{length, take, drop}
-use Rattle.lists.specs.Below.{anyFrom}
 use Rattle.lists.specs.Lists.{same}
 use Rattle.txids.specs.declared.Txid.{Txid}
 
@@ -42,7 +41,3 @@ sameTxid t u = same (wordsOf t) (wordsOf u)
 -- how many txids a list of bytes has, "whole 32s" of it
 abbrev pub listedCount : List ℕ → ℕ
 listedCount bytes = length bytes / 32
-
--- whether a txid is among those of a list
-unfoldable pub isListed : List ℕ → Txid → Bool
-isListed bytes t = anyFrom (λ j. sameTxid (txidAt bytes (32 * j)) t) (listedCount bytes) 0

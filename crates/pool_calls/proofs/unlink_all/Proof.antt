@@ -4,9 +4,9 @@ use borrow.Author.Needs.{needs}
 use Rattle.pool_table.specs.Pool.{slotCount}
 use Rattle.pool_table.specs.Words.{poolOf}
 use Rattle.pool_table.specs.Changes.{Becomes}
-use Rattle.pool.proofs.Leaving.{upTo, walk-start, walk-turn, walk-end}
-use Rattle.pool.proofs.unlink_all.Statement.{statement}
-use Rattle.pool.proofs.unlink_all.Tie as tie
+use Rattle.pool_calls.proofs.Leaving.{upTo, walk-start, walk-turn, walk-end}
+use Rattle.pool_calls.proofs.unlink_all.Statement.{statement}
+use Rattle.pool_calls.proofs.unlink_all.Tie as tie
 
 abbrev Inv-loop : tie.InvT-loop
 Inv-loop table₀ slot n s₀ table s = (s ≤ slotCount (poolOf table₀)) × Becomes (upTo slot s) table₀ table

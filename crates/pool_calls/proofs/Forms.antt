@@ -20,7 +20,7 @@ use Rattle.pool_rules.proofs.Sound.{well-legal, well-sound}
 use Rattle.pool_rules.specs.declared.Placed.{Placed}
 use Rattle.pool_rules.specs.Module8.{isIn, slotOf, cleared}
 use Rattle.pool_rules.specs.Calls.{placed, noSlot, broken, clearAnswer, afterClear}
-use Rattle.pool.specs.Steps.{Takable}
+use Rattle.pool_calls.specs.Steps.{Takable}
 
 -- ---- a well-formed table
 

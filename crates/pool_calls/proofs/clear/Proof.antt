@@ -8,9 +8,9 @@ use Rattle.pool_table.specs.Changes.{made}
 use Rattle.pool_rules.specs.Module8.{cleared}
 use Rattle.pool_rules.proofs.Sound.{well-legal}
 use Rattle.pool_rules.proofs.Tables.{becomes-table}
-use Rattle.pool.proofs.Forms.{clear-refused, clear-done}
-use Rattle.pool.proofs.clear.Statement.{statement}
-use Rattle.pool.proofs.clear.Tie as tie
+use Rattle.pool_calls.proofs.Forms.{clear-refused, clear-done}
+use Rattle.pool_calls.proofs.clear.Statement.{statement}
+use Rattle.pool_calls.proofs.clear.Tie as tie
 
 returns : tie.Need-returns
 returns c = clear-refused _ (sym (c .before .is-well-formed .ensures) ∙ not-true (c .before .is-well-formed .result) (c .if1 .taken))

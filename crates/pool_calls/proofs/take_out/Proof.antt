@@ -7,11 +7,11 @@ use Rattle.pool_table.specs.Pool.{Pool, weightAt, free}
 use Rattle.pool_table.specs.Words.{poolOf}
 use Rattle.pool_table.specs.Changes.{changed, withTotal}
 use Rattle.pool_rules.specs.Module8.{removed}
-use Rattle.pool.specs.Steps.{unlinkedAll}
+use Rattle.pool_calls.specs.Steps.{unlinkedAll}
 use Rattle.pool_rules.proofs.Tables.{becomes-then, becomes-as, becomes-table}
-use Rattle.pool.proofs.Leaving.{taken-out}
-use Rattle.pool.proofs.take_out.Statement.{statement}
-use Rattle.pool.proofs.take_out.Tie as tie
+use Rattle.pool_calls.proofs.Leaving.{taken-out}
+use Rattle.pool_calls.proofs.take_out.Statement.{statement}
+use Rattle.pool_calls.proofs.take_out.Tie as tie
 
 sub-left : tie.Need-sub-left
 sub-left c =

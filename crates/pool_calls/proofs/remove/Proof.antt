@@ -9,11 +9,11 @@ use Rattle.txids.specs.Txids.{txidAt}
 use Rattle.refusals.proofs.Lines.{none-past, past, stop, all-past, refuses-keeps, succeeds-writes}
 use Rattle.pool_table.specs.Words.{poolOf, tableOf}
 use Rattle.pool_table.specs.WellFormed.{wellFormed}
-use Rattle.pool_rules.specs.Calls.{placed, noSlot, placedOf, removeRefusals, removeReply, afterRemove}
+use Rattle.pool_rules.specs.Calls.{placed, noSlot, placedOf, namedRefusals, namedReply, afterRemove}
 use Rattle.pool_rules.specs.Module8.{isIn, slotOf, removed}
-use Rattle.pool.proofs.Forms.{takable, is-in, is-slot, is-absent, slot-below}
-use Rattle.pool.proofs.remove.Statement.{statement}
-use Rattle.pool.proofs.remove.Tie as tie
+use Rattle.pool_calls.proofs.Forms.{takable, is-in, is-slot, is-absent, slot-below}
+use Rattle.pool_calls.proofs.remove.Statement.{statement}
+use Rattle.pool_calls.proofs.remove.Tie as tie
 
 -- the test of the table was passed
 formed : (e : tie.Else1) → wellFormed (e .before .before .before .before .args .table .now) ≡ true
@@ -35,7 +35,7 @@ looked f =
     (f .before .of .ensures) (f .find .ensures)
 
 returns : tie.Need-returns
-unfolding removeReply afterRemove removeRefusals
+unfolding namedReply afterRemove namedRefusals
 returns c =
     let tested = c .before .before in
     refuses-keeps _ _ _ _
@@ -43,7 +43,7 @@ returns c =
     (c .refused .ensures)
 
 returns-2 : tie.Need-returns-2
-unfolding removeReply afterRemove removeRefusals
+unfolding namedReply afterRemove namedRefusals
 returns-2 c =
     let f = c .before .before .before in
     let told = c .before in
@@ -60,7 +60,7 @@ take-out-requires c κs =
     takable (table f) _ (formed (f .before .before .before)) (rw slot (slot-below p (sought f) (is-in p (sought f) _ look)))
 
 returns-3 : tie.Need-returns-3
-unfolding removeReply afterRemove removeRefusals
+unfolding namedReply afterRemove namedRefusals
 returns-3 c =
     let done = c .before .before .before in
     let told = done .before .before .before in

@@ -13,13 +13,13 @@ use Rattle.pool_table.specs.Words.{poolOf}
 use Rattle.pool_table.specs.Changes.{changed, withEntry, withCost}
 use Rattle.pool_rules.proofs.Sound.{well-legal}
 use Rattle.pool_rules.proofs.Tables.{becomes-as, becomes-table}
-use Rattle.pool.proofs.Leaving.{cost-put}
+use Rattle.pool_calls.proofs.Leaving.{cost-put}
 use Rattle.pool_table.specs.WellFormed.{wellFormed}
-use Rattle.pool_rules.specs.Calls.{placed, noSlot, placedOf, costRefusals, costReply, afterSetCost}
+use Rattle.pool_rules.specs.Calls.{placed, noSlot, placedOf, namedRefusals, namedReply, afterSetCost}
 use Rattle.pool_rules.specs.Module8.{isIn, slotOf, costSet}
-use Rattle.pool.proofs.Forms.{is-in, is-slot, is-absent}
-use Rattle.pool.proofs.set_cost.Statement.{statement}
-use Rattle.pool.proofs.set_cost.Tie as tie
+use Rattle.pool_calls.proofs.Forms.{is-in, is-slot, is-absent}
+use Rattle.pool_calls.proofs.set_cost.Statement.{statement}
+use Rattle.pool_calls.proofs.set_cost.Tie as tie
 
 -- the test of the table was passed
 formed : (e : tie.Else1) → wellFormed (e .before .before .before .before .args .table .now) ≡ true
@@ -41,7 +41,7 @@ looked f =
     (f .before .of .ensures) (f .find .ensures)
 
 returns : tie.Need-returns
-unfolding costReply afterSetCost costRefusals
+unfolding namedReply afterSetCost namedRefusals
 returns c =
     let tested = c .before .before in
     refuses-keeps _ _ _ _
@@ -49,7 +49,7 @@ returns c =
     (c .refused .ensures)
 
 returns-2 : tie.Need-returns-2
-unfolding costReply afterSetCost costRefusals
+unfolding namedReply afterSetCost namedRefusals
 returns-2 c =
     let f = c .before .before .before in
     let told = c .before in
@@ -57,7 +57,7 @@ returns-2 c =
     refuses-keeps _ _ _ _ (stop (past (none-past refl) (ap not (formed (f .before .before .before)))) (ap not absent)) (c .refused2 .ensures)
 
 returns-3 : tie.Need-returns-3
-unfolding costReply afterSetCost costRefusals
+unfolding namedReply afterSetCost namedRefusals
 returns-3 c =
     let done = c .before .before .before in
     let read = done .before .before in

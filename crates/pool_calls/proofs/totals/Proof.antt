@@ -4,8 +4,8 @@ use borrow.Author.Needs.{needs}
 use borrow.Author.Tests.{not-true, not-false}
 use Rattle.refusals.proofs.Lines.{none-past, past, stop, all-past, refuses, succeeds}
 use Rattle.pool_rules.specs.Calls.{totalsReply}
-use Rattle.pool.proofs.totals.Statement.{statement}
-use Rattle.pool.proofs.totals.Tie as tie
+use Rattle.pool_calls.proofs.totals.Statement.{statement}
+use Rattle.pool_calls.proofs.totals.Tie as tie
 
 returns : tie.Need-returns
 unfolding totalsReply

@@ -15,7 +15,7 @@ use Rattle.pool_table.proofs.Pools.{pool-ext, changed-count, changed-here, chan
 use Rattle.pool_rules.specs.Module8.{withSlots, removed, costSet}
 use Rattle.pool_rules.proofs.Pools.{count-with, slot-with}
 use Rattle.pool_rules.proofs.Tables.{becomes-then, becomes-as}
-use Rattle.pool.specs.Steps.{unlinkedAll}
+use Rattle.pool_calls.specs.Steps.{unlinkedAll}
 
 -- ---- the walk that takes a slot's links out
 

@@ -6,8 +6,8 @@ ghost use Rattle.txids.specs.Txids.{txidAt};
 ghost use Rattle.pool_table.specs.Words.{poolOf, tableOf};
 ghost use Rattle.pool_table.specs.Changes.{Becomes};
 ghost use Rattle.pool_rules.specs.Module8.{removed};
-ghost use Rattle.pool_rules.specs.Calls.{makeAnswer, afterMake, removeReply, afterRemove, costReply, afterSetCost, clearAnswer, afterClear, totalsReply};
-ghost use Rattle.pool.specs.Steps.{unlinkedAll, Takable};
+ghost use Rattle.pool_rules.specs.Calls.{makeAnswer, afterMake, namedReply, afterRemove, afterSetCost, clearAnswer, afterClear, totalsReply};
+ghost use Rattle.pool_calls.specs.Steps.{unlinkedAll, Takable};
 use pool_rules::Found;
 use pool_rules::Placed;
 use pool_rules::Totals;
@@ -32,7 +32,7 @@ pub fn make(table: &mut [u64], limits: Limits) -> u64
 
 // Takes an entry out of the pool, with its links.
 pub fn remove(table: &mut [u64], txid: [u8; 32]) -> Placed
-    ensures { λ r. ⌜ r ≡ removeReply (now (table .entry)) (txidAt txid 0) ⌝ }
+    ensures { λ r. ⌜ r ≡ namedReply (now (table .entry)) (txidAt txid 0) ⌝ }
     ensures { λ _. ⌜ now (table .exit) ≡ afterRemove (now (table .entry)) (txidAt txid 0) ⌝ }
 {
     if !pool_check::is_well_formed(table) {
@@ -47,7 +47,7 @@ pub fn remove(table: &mut [u64], txid: [u8; 32]) -> Placed
 
 // Puts an entry's sigop cost anew, and nothing else.
 pub fn set_cost(table: &mut [u64], txid: [u8; 32], cost: u64) -> Placed
-    ensures { λ r. ⌜ r ≡ costReply (now (table .entry)) (txidAt txid 0) ⌝ }
+    ensures { λ r. ⌜ r ≡ namedReply (now (table .entry)) (txidAt txid 0) ⌝ }
     ensures { λ _. ⌜ now (table .exit) ≡ afterSetCost (now (table .entry)) (txidAt txid 0) cost ⌝ }
 {
     if !pool_check::is_well_formed(table) {

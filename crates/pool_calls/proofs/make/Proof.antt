@@ -14,8 +14,8 @@ use Rattle.pool_table.specs.Changes.{made}
 use Rattle.pool_table.proofs.Rows.{slot-count}
 use Rattle.pool_rules.specs.Calls.{makeRefusals, makeAnswer, afterMake}
 use Rattle.pool_rules.proofs.Tables.{becomes-table}
-use Rattle.pool.proofs.make.Statement.{statement}
-use Rattle.pool.proofs.make.Tie as tie
+use Rattle.pool_calls.proofs.make.Statement.{statement}
+use Rattle.pool_calls.proofs.make.Tie as tie
 
 -- a table and limits with one thing wrong, and with none
 wrong : (t : List ℕ) (l : Limits) → (isLegal (length t) && limitsInRange l) ≡ false → Gives (makeRefusals t l) 3
