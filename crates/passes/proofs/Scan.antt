@@ -7,15 +7,15 @@ use native.Mathlib.Numerals.{add-one}
 use native.Mathlib.Omega.{arith}
 use lib.ListN.{length, take, drop, getD, set, length-append, length-drop, length-set, take-append-drop, drop-of-length-le}
 use lib.Seq.{length-take-le, take-all, take-at, drop-at, take-suc, drop-cons, getD-at, take-append-add, drop-append-add}
-use borrow.Rule.Slice.PartMut.{midOf, putMid}
 use Rattle.feefrac.specs.declared.FeeFrac.{FeeFrac}
 use Rattle.feefrac.specs.Rate.{higher}
 use Rattle.txset.specs.Sets.{overlap, memAt, positions}
 use Rattle.passes.specs.declared.pass.Group.{Group as Summary}
+use Rattle.passes.specs.Moves.{brought}
 use Rattle.passes.specs.Summary.{Joined}
 use Rattle.passes.specs.Pass.{Group, absorb, dependsOn, settle, alone, groupsAfter, flat, onePass}
 use Rattle.passes.proofs.Groups.{Stands, joined-stands, overlap-depends, Stack, none, more, Near, Far, stack-kept, stack-push, last}
-use Rattle.passes.proofs.Turns.{mid-at, put-at, length-rotated}
+use Rattle.passes.proofs.Turns.{mid-at, put-at, length-brought}
 
 -- ---- lists of groups
 
@@ -191,22 +191,21 @@ module _ {ws : List ℕ} {goal : List Group} {rest order : List ℕ} {groups : L
         )
 
     -- the members ahead go behind the current group's: all that were stepped over stand behind it
-    pub brought : {end : ℕ} {new : List ℕ} → end ≡ from + ahead + cur .len
-        → new ≡ drop ahead (midOf from (end - from) order) ++ take ahead (midOf from (end - from) order)
-        → putMid from (end - from) order new ≡ flat bs ++ (g .txs ++ (behind os ++ rest))
-    brought {end} {new} e n =
-        let k : length (front ++ g .txs) ≡ end - from = omega (arith, part-size) in
-        let mid : midOf from (end - from) order ≡ front ++ g .txs =
-        ap (midOf from (end - from)) (s .lies) ∙ mid-at (flat bs) (front ++ g .txs) (back ++ rest) from (end - from) (sym (s .start)) k
+    pub brought-lies : brought order from ahead (cur .len) ≡ flat bs ++ (g .txs ++ (behind os ++ rest))
+    unfolding brought
+    brought-lies =
+        let k = ahead + cur .len in
+        let mid : take k (drop from order) ≡ front ++ g .txs =
+        ap (λ (l : List ℕ). take k (drop from l)) (s .lies) ∙ mid-at (flat bs) (front ++ g .txs) (back ++ rest) from k (sym (s .start)) part-size
         in
-        let turned : new ≡ g .txs ++ front =
-        n ∙ ap (λ (l : List ℕ). drop ahead l ++ take ahead l) mid
+        let turned : drop ahead (take k (drop from order)) ++ take ahead (take k (drop from order)) ≡ g .txs ++ front =
+        ap (λ (l : List ℕ). drop ahead l ++ take ahead l) mid
         ∙ ap₂ _++_ (drop-at front (g .txs) ahead front-size) (take-at front (g .txs) ahead front-size)
         in
-        ap (λ (l : List ℕ). putMid from (end - from) l new) (s .lies)
-        ∙ put-at (flat bs) (front ++ g .txs) (back ++ rest) new from (end - from) (sym (s .start)) k
+        ap₂ (λ (l new : List ℕ). take from l ++ (new ++ drop k (drop from l))) (s .lies) turned
+        ∙ put-at (flat bs) (front ++ g .txs) (back ++ rest) (g .txs ++ front) from k (sym (s .start)) part-size
         ∙ ap (λ (l : List ℕ). flat bs ++ l)
-        (ap (λ (l : List ℕ). l ++ (back ++ rest)) turned ∙ append-assoc (g .txs) front (back ++ rest)
+        (append-assoc (g .txs) front (back ++ rest)
         ∙ ap (λ (l : List ℕ). g .txs ++ l) (sym (append-assoc front back rest) ∙ ap (λ (l : List ℕ). l ++ rest) (take-append-drop ahead (behind os))))
 
   pub scan-room : Scan ws goal rest order groups cur below from ahead over → Room order cur below from ahead over
@@ -256,12 +255,10 @@ module _ {ws : List ℕ} {goal : List Group} {rest order : List ℕ} {groups : L
     rest-top h = record { bs = u .p ∷ u .bs; os = u .os; g = u .g; state = u .state; settled = settle-stop h }
 
     -- the current group moves up to the one before it, and the two are one
-    pub scan-merge : {end : ℕ} {new : List ℕ} {both : Summary} → higher (cur .rate) (prev .rate) ≡ true → overlap (cur .deps) (prev .set) ≡ true
-        → end ≡ from + ahead + cur .len → new ≡ drop ahead (midOf from (end - from) order) ++ take ahead (midOf from (end - from) order)
-        → Joined prev cur both
-        → Scan ws goal rest (putMid from (end - from) order new) groups both (below - 1) (from - prev .len) 0 over
+    pub scan-merge : {both : Summary} → higher (cur .rate) (prev .rate) ≡ true → overlap (cur .deps) (prev .set) ≡ true → Joined prev cur both
+        → Scan ws goal rest (brought order from ahead (cur .len)) groups both (below - 1) (from - prev .len) 0 over
     unfolding flat
-    scan-merge h d e n j =
+    scan-merge h d j =
         let s = u .state in
         record {
           bs = u .bs;
@@ -275,7 +272,7 @@ module _ {ws : List ℕ} {goal : List Group} {rest order : List ℕ} {groups : L
             high = s .high;
             start = omega (arith, u .top .len, s .start, length-append (flat (u .bs)) (u .p .txs));
             few = omega arith;
-            lies = brought s e n ∙ append-assoc (flat (u .bs)) (u .p .txs) (u .g .txs ++ (behind (u .os) ++ rest))
+            lies = brought-lies s ∙ append-assoc (flat (u .bs)) (u .p .txs) (u .g .txs ++ (behind (u .os) ++ rest))
                 ∙ ap (λ (l : List ℕ). flat (u .bs) ++ l) (sym (append-assoc (u .p .txs) (u .g .txs) (behind (u .os) ++ rest)));
             comes = ap (reverseAux (u .os)) (sym (settle-merge h d)) ∙ s .comes;
           };
@@ -346,14 +343,12 @@ module _ {ws : List ℕ} {goal : List Group} {rest order : List ℕ} {groups : L
         comes = comes-to;
       }
 
-  pub placed-lies : {end : ℕ} {new : List ℕ} → end ≡ from + ahead + cur .len
-      → new ≡ drop ahead (midOf from (end - from) order) ++ take ahead (midOf from (end - from) order)
-      → putMid from (end - from) order new ≡ flat goal ++ rest
+  pub placed-lies : brought order from ahead (cur .len) ≡ flat goal ++ rest
   unfolding flat
-  placed-lies e n =
+  placed-lies =
       let txs = v .g .txs in
       let gone = behind (v .os) in
-      brought (v .state) e n
+      brought-lies (v .state)
       ∙ sym (append-assoc (flat (v .bs)) txs (gone ++ rest))
       ∙ sym (append-assoc (flat (v .bs) ++ txs) gone rest)
       ∙ ap (λ (l : List ℕ). l ++ rest) (sym (flat-back (v .os) (v .g ∷ v .bs)) ∙ ap flat comes-to)
@@ -462,19 +457,19 @@ module _ {rate : ℕ → FeeFrac} {ws order₀ : List ℕ} {groups₀ : List Sum
   pub inner-len : prev .len ≤ from
   inner-len = top-len (uncover d (v .scan gs rest held) some)
 
-  pub inner-merge : {end : ℕ} {new : List ℕ} {both : Summary} → higher (cur .rate) (prev .rate) ≡ true → overlap (cur .deps) (prev .set) ≡ true
-      → end ≡ from + ahead + cur .len → new ≡ drop ahead (midOf from (end - from) order) ++ take ahead (midOf from (end - from) order)
-      → Joined prev cur both
-      → Inner rate ws order₀ groups₀ count k t (putMid from (end - from) order new) groups both (below - 1) (from - prev .len) 0 over
-  inner-merge {end} {new} h o e n j =
-      let long = length-rotated from (end - from) ahead order n in
-      record {
+  pub inner-merge : {new : List ℕ} {both : Summary} → new ≡ brought order from ahead (cur .len)
+      → higher (cur .rate) (prev .rate) ≡ true → overlap (cur .deps) (prev .set) ≡ true → Joined prev cur both
+      → Inner rate ws order₀ groups₀ count k t new groups both (below - 1) (from - prev .len) 0 over
+  inner-merge e h o j =
+      let long = length-brought from ahead (cur .len) order in
+      rw e
+      (record {
         same = long ∙ v .same;
         small = omega (arith, v .small);
         long = v .long;
-        room = scan-room (scan-merge (uncover d (v .scan gs rest held) some) h o e n j);
-        scan = λ gs rest held. scan-merge (uncover d (v .scan gs rest held) some) h o e n j;
-      }
+        room = scan-room (scan-merge (uncover d (v .scan gs rest held) some) h o j);
+        scan = λ gs rest held. scan-merge (uncover d (v .scan gs rest held) some) h o j;
+      })
 
   pub inner-step : higher (cur .rate) (prev .rate) ≡ true → overlap (cur .deps) (prev .set) ≡ false
       → Inner rate ws order₀ groups₀ count k t order (set groups (last - over) prev) cur (below - 1) (from - prev .len) (ahead + prev .len) (over + 1)
@@ -511,15 +506,11 @@ module _ {rate : ℕ → FeeFrac} {ws order₀ : List ℕ} {groups₀ : List Sum
   pub inner-placed : Back ws (settle (memAt ws) (alone rate t) gs) (set groups at cur) (at + 1) over
   inner-placed = rw (stopped-at stop) (placed inner-rest (v .long) (omega (arith, v .room .few, v .small)))
 
-  pub inner-lies : {end : ℕ} {new : List ℕ} → end ≡ from + ahead + cur .len
-      → new ≡ drop ahead (midOf from (end - from) order) ++ take ahead (midOf from (end - from) order)
-      → putMid from (end - from) order new ≡ flat (settle (memAt ws) (alone rate t) gs) ++ rest
-  inner-lies e n = placed-lies inner-rest e n
+  pub inner-lies : brought order from ahead (cur .len) ≡ flat (settle (memAt ws) (alone rate t) gs) ++ rest
+  inner-lies = placed-lies inner-rest
 
-  pub inner-same : {end : ℕ} {new : List ℕ} → end ≡ from + ahead + cur .len
-      → new ≡ drop ahead (midOf from (end - from) order) ++ take ahead (midOf from (end - from) order)
-      → length (putMid from (end - from) order new) ≡ length order₀
-  inner-same {end} e n = length-rotated from (end - from) ahead order n ∙ v .same
+  pub inner-same : length (brought order from ahead (cur .len)) ≡ length order₀
+  inner-same = length-brought from ahead (cur .len) order ∙ v .same
 
 -- at the head of the loop that puts the groups stepped over back: whatever the groups are
 pub record Moved (ws : List ℕ) (groups₀ : List Summary) (count₀ over₀ : ℕ) (groups : List Summary) (count over : ℕ) : Type 0 where

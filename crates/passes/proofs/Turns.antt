@@ -1,6 +1,5 @@
 -- A list turned in place, pair by pair from its ends, and two parts swapped by three turns. Assumes nothing.
 use mathlib.Core.Path.{_≡_, refl, sym, ap, ap₂, _∙_}
-use mathlib.Core.Bool.{Bool, true, false, cond}
 use mathlib.Core.Logic.{⊎-elim}
 use mathlib.Core.List.{List, [], _∷_, _++_, reverse, reverse-cons, append-nil, reverse-append, reverse-reverse}
 use Prim.Native.Nat.{ℕ, _+_, _-_, _/_, _≤_, _<_}
@@ -8,10 +7,9 @@ use native.Mathlib.Nat.{eq-or-lt-of-le, not-suc-le-zero}
 use native.Mathlib.Omega.{arith}
 use lib.ListN.{length, getD, set, take, drop, length-set, length-append, length-reverse, take-append-drop, drop-of-length-le, List·getD-append}
 use lib.Seq.{ext-getD, length-take-le, take-all, take-at, drop-at, getD-at, getD-set-same, getD-set-other}
-use lib.Dec.{leb}
 use borrow.Rule.Slice.PartMut.{midOf, putMid, same-len-mid}
 use Rattle.lists.proofs.Numbers.{lt-or-ge}
-use Rattle.txset.specs.Sets.{positions}
+use Rattle.passes.specs.Moves.{brought}
 
 -- the turned list at j is the list at the same distance from its end
 pub getD-reverse : (l : List ℕ) (j : ℕ) → j < length l → getD (reverse l) j 0 ≡ getD l (length l - 1 - j) 0
@@ -124,15 +122,15 @@ module _ (l low high all : List ℕ) (k n : ℕ) (few : k ≤ length l) (first :
       ∙ ap (λ (m : List ℕ). reverse (take k l) ++ m) (append-nil high ∙ e))
       ∙ turned-parts (take k l) (drop k l)
 
--- a part of a list in whose place it stands rotated
-pub length-rotated : (from size ahead : ℕ) (l : List ℕ) {new : List ℕ} → new ≡ drop ahead (midOf from size l) ++ take ahead (midOf from size l)
-    → length (putMid from size l new) ≡ length l
-length-rotated from size ahead l {new} e =
-    let mid = midOf from size l in
+-- nothing comes or goes where a part is brought forward
+pub length-brought : (from ahead len : ℕ) (l : List ℕ) → length (brought l from ahead len) ≡ length l
+unfolding brought
+length-brought from ahead len l =
+    let mid = midOf from (ahead + len) l in
     let parts : length (take ahead mid) + length (drop ahead mid) ≡ length mid =
     sym (length-append (take ahead mid) (drop ahead mid)) ∙ ap length (take-append-drop ahead mid)
     in
-    same-len-mid from size l new (omega (arith, ap length e, length-append (drop ahead mid) (take ahead mid)))
+    same-len-mid from (ahead + len) l (drop ahead mid ++ take ahead mid) (omega (arith, length-append (drop ahead mid) (take ahead mid)))
 
 -- the cases in which nothing moves
 pub rotated-none : (l : List ℕ) {k : ℕ} → k ≡ 0 → l ≡ drop k l ++ take k l
@@ -140,15 +138,3 @@ rotated-none l e = rw (e, append-nil)
 
 pub rotated-all : (l : List ℕ) {k : ℕ} → length l ≤ k → l ≡ drop k l ++ take k l
 rotated-all l {k} h = rw (drop-of-length-le l h, take-all k l h)
-
--- f on a list turned, and turned back, where the list is short enough
-pub turned-back : (f : List ℕ → List ℕ) (l : List ℕ) {a b r : List ℕ} → a ≡ reverse l → b ≡ cond (leb (length a) positions) (f a) a → r ≡ reverse b
-    → r ≡ cond (leb (length l) positions) (reverse (f (reverse l))) l
-turned-back f l d e n =
-    n ∙ ap reverse (e ∙ ap (λ (m : List ℕ). cond (leb (length m) positions) (f m) m) d)
-    ∙ ap (λ (k : ℕ). reverse (cond (leb k positions) (f (reverse l)) (reverse l))) (length-reverse l)
-    ∙ go (leb (length l) positions)
-  where
-    go : (t : Bool) → reverse (cond t (f (reverse l)) (reverse l)) ≡ cond t (reverse (f (reverse l))) l
-    go true = refl
-    go false = reverse-reverse l

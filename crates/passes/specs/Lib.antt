@@ -1,3 +1,4 @@
+pub mod Moves
 pub mod Pass
 pub mod Summary
 pub mod Turned

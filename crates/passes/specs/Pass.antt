@@ -3,10 +3,13 @@
 use Prim.Native.Nat.{ℕ}
 use mathlib.Core.Bool.{Bool, cond}
 use mathlib.Core.List.{List, [], _∷_, _++_, reverse}
+use lib.Dec.{leb}
+use lib.ListN.{length}
 use lib.IntN.{ℤ}
 use Rattle.feefrac.specs.declared.FeeFrac.{FeeFrac}
 use Rattle.feefrac.specs.Rate.{sum, negated, higher, rateAt}
 use Rattle.lists.specs.Lists.{anyOf}
+use Rattle.txset.specs.Sets.{positions}
 
 -- some members, in their order, and their feerate sum
 pub record Group : Type 0 where
@@ -52,3 +55,7 @@ backPass fs ss desc order = reverse (onePass (λ i. negated (rateAt fs ss i)) de
 -- "the second forward with ancestors"
 unfoldable pub forwardPass : List ℤ → List ℕ → (ℕ → ℕ → Bool) → List ℕ → List ℕ
 forwardPass fs ss anc order = onePass (rateAt fs ss) anc order
+
+-- what the functions between crates leave: a list that is longer than a set has positions stays as it is
+abbrev pub ifFits : (List ℕ → List ℕ) → List ℕ → List ℕ
+ifFits pass order = cond (leb (length order) positions) (pass order) order

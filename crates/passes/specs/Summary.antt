@@ -1,5 +1,5 @@
--- What the code keeps of a group: the contracts of its two ways to make such a summary. Assumes nothing.
-use Prim.Native.Nat.{ℕ, _+_}
+-- What the code keeps of a group, and of its way forward: the contracts of the ways to make such a summary. Assumes nothing.
+use Prim.Native.Nat.{ℕ, _+_, _-_}
 use mathlib.Core.Path.{_≡_}
 use mathlib.Core.Bool.{_&&_, _||_}
 use lib.Dec.{eqb}
@@ -8,6 +8,7 @@ use Rattle.feefrac.specs.Rate.{sum}
 use Rattle.txset.specs.declared.TxSet.{TxSet}
 use Rattle.txset.specs.Sets.{mem, isPosition}
 use Rattle.passes.specs.declared.pass.Group.{Group}
+use Rattle.passes.specs.declared.pass.Way.{Way}
 
 -- g is the summary of the member t alone
 pub record Single (t : ℕ) (on : TxSet) (r : FeeFrac) (g : Group) : Type 0 where
@@ -22,3 +23,14 @@ pub record Joined (prev cur g : Group) : Type 0 where
   pub set : (i : ℕ) → mem (g .set) i ≡ (mem (cur .set) i || mem (prev .set) i)
   pub deps : (i : ℕ) → mem (g .deps) i ≡ (mem (cur .deps) i || mem (prev .deps) i)
   pub rate : g .rate ≡ sum (cur .rate) (prev .rate)
+
+-- a group on top of `count` others, whose members are the first k
+abbrev pub startOn : ℕ → ℕ → Way
+startOn count k = record { below = count; from = k; ahead = 0; over = 0 }
+
+-- a group that has merged the one below it, of `len` members, and one that has stepped in front of it
+abbrev pub mergedOn : Way → ℕ → Way
+mergedOn w len = record { below = w .below - 1; from = w .from - len; ahead = 0; over = w .over }
+
+abbrev pub passedOn : Way → ℕ → Way
+passedOn w len = record { below = w .below - 1; from = w .from - len; ahead = w .ahead + len; over = w .over + 1 }

@@ -1,7 +1,9 @@
 // Moves of whole parts of a list of positions.
 ghost use mathlib.Core.Path.{_≡_};
 ghost use mathlib.Core.List.{_++_, reverse};
+ghost use Prim.Native.Nat.{_+_, _≤_};
 ghost use lib.ListN.{length, take, drop};
+ghost use Rattle.passes.specs.Moves.{brought};
 
 // The list from its end to its start.
 pub fn reverse(list: &mut [usize])
@@ -32,4 +34,13 @@ pub fn rotate(list: &mut [usize], count: usize)
     reverse(&mut list[..count]);
     reverse(&mut list[count..]);
     reverse(list);
+}
+
+// Of the `ahead + len` elements from `from` on, the first `ahead` go behind the others.
+pub fn bring(list: &mut [usize], from: usize, ahead: usize, len: usize)
+    requires { ⌜ from + (ahead + len) ≤ length (now list) ⌝ }
+    ensures { λ _. ⌜ now (list .exit) ≡ brought (now (list .entry)) from ahead len ⌝ }
+{
+    let end = from + (ahead + len);
+    rotate(&mut list[from..end], ahead);
 }

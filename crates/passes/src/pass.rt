@@ -3,14 +3,12 @@
 // than positions. The members of all groups stand in the list itself, one group after the other, so that a merge moves nothing
 // and a group that steps forward is one rotation.
 ghost use mathlib.Core.Path.{_≡_};
-ghost use Prim.Native.Nat.{_+_, _<_};
+ghost use Prim.Native.Nat.{_+_, _≤_, _<_};
 ghost use lib.ListN.{length};
-ghost use lib.Dec.{leb};
-ghost use mathlib.Core.Bool.{cond};
 ghost use Rattle.txset.specs.Sets.{positions, memAt};
 ghost use Rattle.passes.specs.Pass.{onePass};
 ghost use Rattle.passes.specs.Turned.{turned};
-ghost use Rattle.passes.specs.Summary.{Single, Joined};
+ghost use Rattle.passes.specs.Summary.{Single, Joined, startOn, mergedOn, passedOn};
 use crate::moves;
 use feefrac::FeeFrac;
 use txset::POSITIONS;
@@ -65,6 +63,57 @@ impl Group {
     }
 }
 
+// A group on its way forward. `below` groups stand under it, and their members end at `from`. Then come `ahead` members of groups that
+// it passed since it last merged, then its own, then those that it passed before. The summaries of the `over` groups that it passed wait
+// at the array's end.
+pub struct Way {
+    below: usize,
+    from: usize,
+    ahead: usize,
+    over: usize,
+}
+
+impl Way {
+    // It stands on top of all groups.
+    fn start(count: usize, k: usize) -> Way
+        ensures { λ r. ⌜ r ≡ startOn count k ⌝ }
+    {
+        Way {
+            below: count,
+            from: k,
+            ahead: 0,
+            over: 0,
+        }
+    }
+
+    // It has merged the group below, which had so many members.
+    fn merged(self, len: usize) -> Way
+        requires { ⌜ (0 < self .below) × (len ≤ self .from) ⌝ }
+        ensures { λ r. ⌜ r ≡ mergedOn self len ⌝ }
+    {
+        Way {
+            below: self.below - 1,
+            from: self.from - len,
+            ahead: 0,
+            over: self.over,
+        }
+    }
+
+    // It has stepped in front of the group below, which has so many members.
+    fn passed(self, len: usize) -> Way
+        requires { ⌜ (0 < self .below) × (len ≤ self .from) ⌝ }
+        requires { ⌜ (self .ahead + len < 18446744073709551616) × (self .over + 1 < 18446744073709551616) ⌝ }
+        ensures { λ r. ⌜ r ≡ passedOn self len ⌝ }
+    {
+        Way {
+            below: self.below - 1,
+            from: self.from - len,
+            ahead: self.ahead + len,
+            over: self.over + 1,
+        }
+    }
+}
+
 // A member's feerate, with the fee's sign turned on the way back.
 fn feerate(fees: &[i64], sizes: &[u64], back: bool, t: usize) -> FeeFrac
     ensures { λ r. ⌜ r ≡ turned back (now (fees .entry)) (now (sizes .entry)) t ⌝ }
@@ -76,14 +125,12 @@ fn feerate(fees: &[i64], sizes: &[u64], back: bool, t: usize) -> FeeFrac
     rate
 }
 
-// A list longer than a set has positions stays as it is.
+// Works the members of the list into groups, one after the other, and leaves the groups' members in the list.
 pub fn one_pass(fees: &[i64], sizes: &[u64], deps: &[u64], back: bool, order: &mut [usize])
-    ensures { λ _. ⌜ now (order .exit) ≡ cond (leb (length (now (order .entry))) positions) (onePass (turned back (now (fees .entry)) (now (sizes .entry))) (memAt (now (deps .entry))) (now (order .entry))) (now (order .entry)) ⌝ }
+    requires { ⌜ length (now order) ≤ positions ⌝ }
+    ensures { λ _. ⌜ now (order .exit) ≡ onePass (turned back (now (fees .entry)) (now (sizes .entry))) (memAt (now (deps .entry))) (now (order .entry)) ⌝ }
 {
     let n = order.len();
-    if POSITIONS < n {
-        return;
-    }
     let none = Group::none();
     let mut groups = [none; POSITIONS];
     let mut count: usize = 0;
@@ -91,14 +138,10 @@ pub fn one_pass(fees: &[i64], sizes: &[u64], deps: &[u64], back: bool, order: &m
     while k < n {
         let t = order[k];
         let mut cur = Group::alone(t, TxSet::at(deps, t), feerate(fees, sizes, back, t));
-        // The scan yields the place where the group comes to rest. Before `from` stand the groups below that place,
-        // then `ahead` members of groups that it passed since it last merged, then its own, then those it passed before.
-        // The summaries of the `over` groups that it passed wait at the array's end.
-        let mut below = count;
-        let mut from = k;
-        let mut ahead: usize = 0;
-        let mut over: usize = 0;
+        let mut way = Way::start(count, k);
+        // The scan yields the place where the group comes to rest.
         let at = loop {
+            let below = way.below;
             if below == 0 {
                 break 0;
             }
@@ -106,24 +149,21 @@ pub fn one_pass(fees: &[i64], sizes: &[u64], deps: &[u64], back: bool, order: &m
             if !cur.rate.higher_rate(prev.rate) {
                 break below;
             }
-            let start = from;
-            from -= prev.len;
-            below -= 1;
             if cur.deps.overlaps(prev.set) {
-                let end = start + ahead + cur.len;
-                moves::rotate(&mut order[start..end], ahead);
+                moves::bring(order, way.from, way.ahead, cur.len);
+                way = way.merged(prev.len);
                 cur = cur.absorb_before(prev);
-                ahead = 0;
             } else {
-                groups[LAST - over] = prev;
-                over += 1;
-                ahead += prev.len;
+                let waiting = LAST - way.over;
+                groups[waiting] = prev;
+                way = way.passed(prev.len);
             }
         };
-        let end = from + ahead + cur.len;
-        moves::rotate(&mut order[from..end], ahead);
+        moves::bring(order, way.from, way.ahead, cur.len);
         groups[at] = cur;
         count = at + 1;
+        // Those that it passed go back on top, the last one first.
+        let mut over = way.over;
         while 0 < over {
             over -= 1;
             let prev = groups[LAST - over];

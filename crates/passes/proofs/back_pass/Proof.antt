@@ -1,21 +1,26 @@
-use mathlib.Core.Bool.{true}
+use mathlib.Core.Path.{ap}
+use native.Mathlib.Omega.{arith}
+use lib.ListN.{length, length-reverse}
 use borrow.Author.Needs.{needs}
-use Rattle.passes.specs.Pass.{backPass, onePass}
+use borrow.Author.Tests.{le-leb, lt-leb}
+use Rattle.txset.specs.Sets.{positions}
+use Rattle.passes.specs.Pass.{backPass}
 use Rattle.passes.specs.Turned.{turned}
-use Rattle.txset.specs.Sets.{memAt}
-use Rattle.passes.proofs.Turns.{turned-back}
 use Rattle.passes.proofs.back_pass.Statement.{statement}
 use Rattle.passes.proofs.back_pass.Tie as tie
 
-returns : tie.Need-returns
+pub back-pass-spec : {M : Type 1} → statement M
 unfolding turned backPass
-returns c =
+back-pass-spec =
+    tie.close
+    (tie.spec
+    (λ c. rw (lt-leb _ positions (c .if1 .taken)))
+    (λ c κs. search needs)
+    (λ c κs. let first = c .before .before .before in omega (arith, simp length-reverse at (ap length (first .reverse .ensures)), first .before .before .if1 .left))
+    (λ c κs. search needs)
+    (λ c. search needs)
+    (λ c.
     let last = c .before .before in
     let pass = last .before .before .before .before in
     let first = pass .before .before .before .before in
-    let args = first .before .before .before .before .before .args in
-    turned-back (onePass (turned true (args .fees .now) (args .sizes .now)) (memAt (args .descendants .now))) (args .order .now)
-    (first .reverse .ensures) (pass .one-pass .ensures) (last .reverse2 .ensures)
-
-pub back-pass-spec : {M : Type 1} → statement M
-back-pass-spec = tie.close (tie.spec (λ c κs. search needs) (λ c κs. search needs) (λ c κs. search needs) (λ c. search needs) returns)
+    rw (le-leb _ positions (first .before .before .if1 .left), last .reverse2 .ensures, pass .one-pass .ensures, first .reverse .ensures)))

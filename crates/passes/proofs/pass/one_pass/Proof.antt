@@ -1,11 +1,13 @@
-use Prim.Native.Nat.{_-_, _<_}
+use Prim.Native.Nat.{_-_, _≤_, _<_}
 use mathlib.Core.Logic.{⊎-elim}
-use mathlib.Core.Path.{refl, sym, _∙_}
+use mathlib.Core.Path.{refl, sym, ap, _∙_}
 use native.Mathlib.Omega.{arith}
-use lib.ListN.{length-set}
+use lib.ListN.{length, getD, length-set}
+use lib.IntN.{pos}
 use borrow.Author.Needs.{needs}
-use borrow.Author.Tests.{not-true, not-false, le-leb, lt-leb}
+use borrow.Author.Tests.{not-true, not-false}
 use Rattle.txset.specs.Sets.{positions}
+use Rattle.passes.specs.declared.pass.Group.{Group as Summary}
 use Rattle.passes.specs.Turned.{turned}
 use Rattle.passes.proofs.Groups.{single-stands}
 use Rattle.passes.proofs.Scan.{Outer, Inner, Moved, outer-start, outer-next, outer-again, outer-done, inner-start, inner-len, inner-merge, inner-step}
@@ -14,18 +16,17 @@ use Rattle.passes.proofs.pass.one_pass.Statement.{statement}
 use Rattle.passes.proofs.pass.one_pass.Tie as tie
 
 abbrev Inv-loop2 : tie.InvT-loop2
-Inv-loop2 fees sizes deps back order₀ n groups₀ count k t cur₀ below₀ from₀ ahead₀ over₀ order groups cur below from ahead over =
-    Inner (turned back fees sizes) deps order₀ groups₀ count k t order groups cur below from ahead over
+Inv-loop2 fees sizes deps back order₀ n groups₀ count k t cur₀ way₀ order groups cur way =
+    Inner (turned back fees sizes) deps order₀ groups₀ count k t order groups cur (way .below) (way .from) (way .ahead) (way .over)
 
 abbrev μ-loop2 : tie.MeasureT-loop2
-μ-loop2 fees sizes deps back order₀ n groups₀ count k t cur₀ below₀ from₀ ahead₀ over₀ order groups cur below from ahead over = below
+μ-loop2 fees sizes deps back order₀ n groups₀ count k t cur₀ way₀ order groups cur way = way .below
 
 abbrev Inv-loop3 : tie.InvT-loop3
-Inv-loop3 fees sizes deps back order n groups₀ count₀ k t below from ahead over₀ at end groups count over =
-    Moved deps groups₀ count₀ over₀ groups count over
+Inv-loop3 fees sizes deps back order n groups₀ count₀ k t at over₀ groups count over = Moved deps groups₀ count₀ over₀ groups count over
 
 abbrev μ-loop3 : tie.MeasureT-loop3
-μ-loop3 fees sizes deps back order n groups₀ count₀ k t below from ahead over₀ at end groups count over = over
+μ-loop3 fees sizes deps back order n groups₀ count₀ k t at over₀ groups count over = over
 
 abbrev Inv-loop : tie.InvT-loop
 Inv-loop fees sizes deps back order₀ n groups₀ count₀ k₀ order groups count k =
@@ -34,102 +35,91 @@ Inv-loop fees sizes deps back order₀ n groups₀ count₀ k₀ order groups co
 abbrev μ-loop : tie.MeasureT-loop
 μ-loop fees sizes deps back order₀ n groups₀ count₀ k₀ order groups count k = n - k
 
+loop-holds : tie.Need-loop-holds Inv-loop2 μ-loop2 Inv-loop3 μ-loop3 Inv-loop μ-loop
+loop-holds c = outer-start _ _ _ _ refl (c .before .before .before .before .pre)
+
+-- the member of the scan, and the groups before it, from the scan's head
+abbrev head : tie.At-loop2 Inv-loop2 μ-loop2 Inv-loop3 μ-loop3 Inv-loop μ-loop → tie.In-loop Inv-loop2 μ-loop2 Inv-loop3 μ-loop3 Inv-loop μ-loop
+head c = c .before .before .before .before .before .before
+
 -- how the scan was left
-stopped : (c : tie.Joined2 Inv-loop2 μ-loop2 Inv-loop3 μ-loop3 Inv-loop μ-loop)
-    → Stopped (c .before .loop2 .groups) (c .before .loop2 .cur) (c .before .loop2 .below) (c .if2 .at)
+stopped : (c : tie.Joined1 Inv-loop2 μ-loop2 Inv-loop3 μ-loop3 Inv-loop μ-loop)
+    → Stopped (c .before .loop2 .groups) (c .before .loop2 .cur) (c .before .loop2 .way .below) (c .if1 .at)
 stopped c =
     ⊎-elim
     (λ w. rw (w .1) (at-bottom (w .0 .taken)))
     (λ w. rw (w .4) (at-top _ (search needs) (sym (w .2 .ensures) ∙ not-true _ (w .3 .taken))))
-    (c .if2 .came)
-
-returns : tie.Need-returns Inv-loop2 μ-loop2 Inv-loop3 μ-loop3 Inv-loop μ-loop
-returns c = rw (lt-leb _ positions (c .if1 .taken))
-
-loop-holds : tie.Need-loop-holds Inv-loop2 μ-loop2 Inv-loop3 μ-loop3 Inv-loop μ-loop
-loop-holds c = outer-start _ _ _ _ refl (c .before .if1 .left)
+    (c .if1 .came)
 
 loop2-holds : tie.Need-loop2-holds Inv-loop2 μ-loop2 Inv-loop3 μ-loop3 Inv-loop μ-loop
 loop2-holds c =
+    let member = c .before in
+    let loop = member .before .before .before .before in
+    rw (c .start .ensures)
+    (inner-start (loop .before .loop .inv) (loop .loop-test .taken)
+    (single-stands (member .alone .ensures) (member .before .before .at .ensures) (member .before .feerate .ensures)))
+
+-- an empty place of the array, and the group below the current one: its members end before those ahead
+abbrev empty : Summary
+empty = record { len = 0; set = record { word = 0 }; deps = record { word = 0 }; rate = record { fee = pos 0; size = 0 } }
+
+below-len : (c : tie.Else2 Inv-loop2 μ-loop2 Inv-loop3 μ-loop3 Inv-loop μ-loop)
+    → (let loop = c .before .before .before .before .loop2 in
+    getD (loop .groups) (loop .way .below - 1) empty .len ≤ loop .way .from)
+below-len c =
     let loop = c .before .before .before .before in
-    inner-start (loop .before .loop .inv) (search needs)
-    (single-stands (c .alone .ensures) (c .before .before .at .ensures) (c .before .feerate .ensures))
-
-sub-from : tie.Need-sub-from Inv-loop2 μ-loop2 Inv-loop3 μ-loop3 Inv-loop μ-loop
-sub-from c =
-    let loop = c .before .before .before .before .before in
-    let member = loop .before .before .before .before .before in
-    inner-len (loop .loop2 .inv) (outer-next (member .before .loop .inv) (search needs)) (search needs) _
-
-absorb-before-requires : tie.Need-absorb-before-requires Inv-loop2 μ-loop2 Inv-loop3 μ-loop3 Inv-loop μ-loop
-absorb-before-requires c κs =
-    let step = c .before .before .before .before .before .before .before in
-    let loop = step .before .before .before .before .before in
-    omega (arith, sub-from step, loop .loop2 .inv)
-
-add-ahead : tie.Need-add-ahead Inv-loop2 μ-loop2 Inv-loop3 μ-loop3 Inv-loop μ-loop
-add-ahead c =
-    let step = c .before .before .before in
-    let loop = step .before .before .before .before .before in
-    omega (arith, sub-from step, loop .loop2 .inv)
+    inner-len (loop .loop2 .inv) (outer-next (head loop .before .loop .inv) (head loop .loop-test .taken)) (search needs) empty
 
 loop2-again : tie.Need-loop2-again Inv-loop2 μ-loop2 Inv-loop3 μ-loop3 Inv-loop μ-loop
 loop2-again c =
-    let rotate = c .before .before .before in
-    let step = rotate .before .before .before in
-    let rate = step .before .before .before in
+    let then = c .before .before .before .before .before .before in
+    let rate = then .before .before in
     let loop = rate .before .before .before .before in
-    let member = loop .before .before .before .before .before in
-    inner-merge (loop .loop2 .inv) (outer-next (member .before .loop .inv) (search needs)) (search needs) _
-    (sym (rate .before .higher-rate .ensures) ∙ not-false _ (rate .if3 .left)) (sym (step .before .overlaps .ensures) ∙ step .if4 .taken)
-    refl (rotate .rotate .ensures) (c .absorb-before .ensures)
+    rw (c .before .merged .ensures)
+    (inner-merge (loop .loop2 .inv) (outer-next (head loop .before .loop .inv) (head loop .loop-test .taken)) (search needs) _ (c .before .before .before .before .bring .ensures)
+    (sym (rate .before .higher-rate .ensures) ∙ not-false _ (rate .if2 .left)) (sym (then .before .overlaps .ensures) ∙ then .if3 .taken)
+    (c .absorb-before .ensures))
 
 loop2-again-2 : tie.Need-loop2-again-2 Inv-loop2 μ-loop2 Inv-loop3 μ-loop3 Inv-loop μ-loop
 loop2-again-2 c =
-    let step = c .before in
-    let rate = step .before .before .before in
+    let else = c .before .before in
+    let rate = else .before .before in
     let loop = rate .before .before .before .before in
-    let member = loop .before .before .before .before .before in
-    inner-step (loop .loop2 .inv) (outer-next (member .before .loop .inv) (search needs)) (search needs) _
-    (sym (rate .before .higher-rate .ensures) ∙ not-false _ (rate .if3 .left)) (sym (step .before .overlaps .ensures) ∙ step .if4 .left)
+    rw (c .passed .ensures)
+    (inner-step (loop .loop2 .inv) (outer-next (head loop .before .loop .inv) (head loop .loop-test .taken)) (search needs) _
+    (sym (rate .before .higher-rate .ensures) ∙ not-false _ (rate .if2 .left)) (sym (else .before .overlaps .ensures) ∙ else .if3 .left))
 
 -- the index at which the current group is stored
-at-small : (c : tie.After-row-known Inv-loop2 μ-loop2 Inv-loop3 μ-loop3 Inv-loop μ-loop)
-    → c .before .before .before .before .before .before .if2 .at < positions
+at-small : (c : tie.After-row-known Inv-loop2 μ-loop2 Inv-loop3 μ-loop3 Inv-loop μ-loop) → c .before .before .before .before .before .if1 .at < positions
 at-small c =
-    let end = c .before .before .before .before .before .before in
+    let end = c .before .before .before .before .before in
     omega (arith, stopped-at (stopped end), end .before .loop2 .inv)
 
 loop3-holds : tie.Need-loop3-holds Inv-loop2 μ-loop2 Inv-loop3 μ-loop3 Inv-loop μ-loop
 loop3-holds c =
-    let end = c .before .before .before .before .before .before in
+    let end = c .before .before .before .before .before in
     moved-start (simp length-set (end .before .loop2 .inv .long)) (omega (arith, stopped-at (stopped end), end .before .loop2 .inv))
-
-loop3-again : tie.Need-loop3-again Inv-loop2 μ-loop2 Inv-loop3 μ-loop3 Inv-loop μ-loop
-loop3-again c =
-    let loop = c .before .before in
-    moved-turn _ (loop .loop3 .inv) (c .before .loop3-test .taken)
 
 loop-again : tie.Need-loop-again Inv-loop2 μ-loop2 Inv-loop3 μ-loop3 Inv-loop μ-loop
 loop-again c =
     let back = c .before in
-    let rotate = back .before .before .before .before in
-    let end = rotate .before .before .before in
+    let bring = back .before .before .before .before in
+    let end = bring .before .before in
     let scan = end .before .loop2 .inv in
-    let member = end .before .before .before .before .before .before in
+    let member = head (end .before) in
     let outer = member .before .loop .inv in
-    let next = outer-next outer (search needs) in
-    outer-again outer (search needs)
+    let next = outer-next outer (member .loop-test .taken) in
+    outer-again outer (member .loop-test .taken)
     (back-done (back .loop3 .inv .back _ (inner-placed scan next (stopped end))) (c .loop3-test .left))
-    (inner-lies scan next (stopped end) refl (rotate .rotate2 .ensures))
-    (inner-same scan next (stopped end) refl (rotate .rotate2 .ensures))
+    (bring .bring2 .ensures ∙ inner-lies scan next (stopped end))
+    (ap length (bring .bring2 .ensures) ∙ inner-same scan next (stopped end))
     (back .loop3 .inv .long)
 
 same-length : tie.Need-same-length Inv-loop2 μ-loop2 Inv-loop3 μ-loop3 Inv-loop μ-loop
 same-length c = c .before .loop .inv .same
 
-returns-2 : tie.Need-returns-2 Inv-loop2 μ-loop2 Inv-loop3 μ-loop3 Inv-loop μ-loop
-returns-2 c = rw (le-leb _ positions (c .before .before .before .if1 .left)) (outer-done (c .before .loop .inv) (c .loop-test .left))
+returns : tie.Need-returns Inv-loop2 μ-loop2 Inv-loop3 μ-loop3 Inv-loop μ-loop
+returns c = outer-done (c .before .loop .inv) (c .loop-test .left)
 
 pub one-pass-spec : {M : Type 1} → statement M
 one-pass-spec =
@@ -141,11 +131,11 @@ one-pass-spec =
     μ-loop3
     Inv-loop
     μ-loop
-    returns
     (λ c κs. search needs)
     loop-holds
     (λ c. search needs)
     (λ c. search needs)
+    (λ c κs. search needs)
     (λ c κs. search needs)
     (λ c κs. search needs)
     (λ c κs. search needs)
@@ -154,33 +144,19 @@ one-pass-spec =
     (λ c. search needs)
     (λ c. search needs)
     (λ c κs. search needs)
-    sub-from
-    (λ c. search needs)
     (λ c κs. search needs)
-    (λ c. search needs)
-    (λ c. search needs)
-    (λ c. search needs)
-    (λ c. search needs)
-    (λ c. search needs)
-    (λ c. search needs)
-    (λ c κs. search needs)
-    absorb-before-requires
-    (λ c. search needs)
+    (λ c κs. omega (arith, c .before .before .before .before .before .before .before .loop2 .inv))
+    (λ c κs. (search needs, below-len (c .before .before .before .before .before .before)))
+    (λ c κs. let rate = c .before .before .before .before .before .before .before in omega (arith, below-len rate, rate .before .before .before .before .loop2 .inv))
+    (λ c. rw (c .before .merged .ensures) (search needs))
     loop2-again
+    (λ c. omega (arith, c .before .before .before .before .before .before .before .loop2 .inv))
     (λ c. search needs)
-    (λ c. search needs)
-    (λ c. search needs)
-    (λ c. search needs)
-    add-ahead
-    (λ c. search needs)
+    (λ c. omega (arith, c .before .before .before .before .before .before .before .loop2 .inv))
+    (λ c κs. let rate = c .before .before .before in let h = below-len rate in ((search needs, h), (omega (arith, rate .before .before .before .before .loop2 .inv), omega (arith, rate .before .before .before .before .loop2 .inv))))
+    (λ c. rw (c .passed .ensures) (search needs))
     loop2-again-2
-    (λ c. search needs)
-    (λ c. search needs)
-    (λ c. search needs)
-    (λ c. search needs)
-    (λ c. search needs)
-    (λ c. search needs)
-    (λ c κs. search needs)
+    (λ c κs. omega (arith, c .before .before .loop2 .inv))
     (λ c. omega (arith, at-small c))
     (λ c. omega (arith, at-small c))
     (λ c. omega (arith, at-small c))
@@ -193,9 +169,9 @@ one-pass-spec =
     (λ c. search needs)
     (λ c. search needs)
     (λ c. search needs)
-    loop3-again
+    (λ c. moved-turn _ (c .before .before .loop3 .inv) (c .before .loop3-test .taken))
     (λ c. search needs)
     (λ c. search needs)
     loop-again
     same-length
-    returns-2)
+    returns)
