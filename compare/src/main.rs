@@ -9,6 +9,8 @@ mod generate;
 mod measure;
 mod model;
 mod original;
+mod pool;
+mod pool_replay;
 mod replay;
 mod rng;
 mod run;
@@ -25,7 +27,8 @@ compare bench                           print a table of times
 compare worst [--seconds S]             search for the clusters with the smallest gain
 compare wrong [--tries N]               search for the smallest cluster that tells each wrong program from the right one
 compare replay DIR                      write cases and answers, as stdin and stdout, to a folder
-compare texts DIR                       write the table of crates/run_cluster_texts to a folder";
+compare texts DIR                       write the table of crates/run_cluster_texts to a folder
+compare pool DIR                        write calls on pools and their answers, as stdin and stdout, to a folder";
 
 fn main() -> ExitCode {
     let words: Vec<String> = std::env::args().skip(1).collect();
@@ -63,6 +66,7 @@ fn perform(words: &[&str]) -> Result<(), String> {
             Ok(())
         }
         ["replay", folder] => replay::write(Path::new(folder)),
+        ["pool", folder] => pool_replay::write(Path::new(folder)),
         ["texts", folder] => {
             let told = texts::write_table(Path::new(folder));
             told.map_err(|error| format!("{folder}: {error}"))
