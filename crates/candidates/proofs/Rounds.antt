@@ -1,6 +1,6 @@
 -- The rounds of specs/Candidates.antt as the code runs them. Assumes nothing.
 use mathlib.Core.Path.{_≡_, refl, sym, ap, ap₂, _∙_}
-use mathlib.Core.Bool.{Bool, true, false, not, _&&_, _||_, and-true, and-false, and-comm}
+use mathlib.Core.Bool.{Bool, true, false, not, _&&_, and-true, and-false, and-comm, and-assoc}
 use mathlib.Core.List.{List, [], _∷_, _++_, append-assoc, append-nil}
 use Prim.Native.Nat.{ℕ, zero, suc, _+_, _-_, _≤_, _<_}
 use native.Mathlib.Omega.{arith}
@@ -23,7 +23,7 @@ use Rattle.candidates.specs.Candidates.{givenBack, ancestorSum, remainin
 use Rattle.candidates.specs.Candidates.{appendAncestors, appendFor, rounds, ancestorOrder, fits, written, filled}
 use Rattle.candidates.specs.Steps.{ancestorIn, fewerIn, sorted, Turned, GaveBack, Appended}
 use Rattle.lists.proofs.Bools.{and-left}
-use Rattle.lists.proofs.Lists.{elem-append, without-append}
+use Rattle.lists.proofs.Lists.{without-append}
 use Rattle.lists.proofs.Ranges.{list-below, count-below, count-parts}
 use Rattle.feeset.proofs.Scan.{best-ext}
 use Rattle.candidates.proofs.Sums.{back-append, back-ext}
@@ -154,15 +154,9 @@ module _
       some-left : (gone : List ℕ) (a : ℕ) → (mem some a && not (elem a gone)) ≡ (ltb a n && (memAt ws t a && not (elem a (h .out ++ gone))))
       some-left gone a =
           ap (λ (b : Bool). b && not (elem a gone)) (shared a ∙ ap₂ _&&_ (ap (λ (s : TxSet). mem s a) at-is) (h .left a))
-          ∙ go (memAt ws t a) (ltb a n) (elem a (h .out)) (elem a gone)
-          ∙ ap (λ (b : Bool). ltb a n && (memAt ws t a && not b)) (sym (elem-append a (h .out) gone))
-        where
-          go : (x l o g : Bool) → ((x && (l && not o)) && not g) ≡ (l && (x && not (o || g)))
-          go true true true g = refl
-          go true true false g = refl
-          go true false o g = refl
-          go false true o g = refl
-          go false false o g = refl
+          ∙ rw (← and-assoc (memAt ws t a) (ltb a n) (not (elem a (h .out))), and-comm (memAt ws t a) (ltb a n))
+          (rw (and-assoc (ltb a n) (memAt ws t a) (not (elem a (h .out))), and-assoc (ltb a n) (memAt ws t a && not (elem a (h .out))) (not (elem a gone)))
+          (ap (λ (b : Bool). ltb a n && b) (without-append (memAt ws t a) a (h .out) gone)))
 
       -- appending them one by one is appending them after what is out
       appends : (k : ℕ) (gone : List ℕ)

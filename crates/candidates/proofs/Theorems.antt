@@ -15,7 +15,7 @@ use Rattle.feefrac.proofs.Exact.{difference-exact, abs-difference, abs-exact, e
 use Rattle.lists.specs.Below.{keepIf, countFrom, listFrom}
 use Rattle.lists.specs.Lists.{anyOf, only, elem, distinct}
 use Rattle.lists.proofs.Below.{elem-in, list-ext, list-with, list-without, count-list}
-use Rattle.lists.proofs.Bools.{and-left, and-right, without-or}
+use Rattle.lists.proofs.Bools.{and-left, and-right, without-or, cases}
 use Rattle.lists.proofs.Lists.{elem-head, elem-tail, After, after-none}
 use Rattle.lists.proofs.Ranges.{count-le}
 use Rattle.feeset.specs.Total.{total}
@@ -96,11 +96,7 @@ module _
     less j = ap (λ (b : Bool). f j && not b) (or-comm (eqb j t) (elem j ts)) ∙ sym (without-or (f j) (elem j ts) (eqb j t))
 
     other : f t ≡ false → (j : ℕ) → ((f j && not (elem j ts)) && not (eqb j t)) ≡ (f j && not (elem j ts))
-    other e j = go (eqb j t) refl
-      where
-        go : (b : Bool) → eqb j t ≡ b → ((f j && not (elem j ts)) && not b) ≡ (f j && not (elem j ts))
-        go true q = rw (eqb-true j t q, e)
-        go false q = and-true (f j && not (elem j ts))
+    other e j = cases (eqb j t) (λ q. rw (eqb-true j t q, e)) (λ q. rw q (and-true (f j && not (elem j ts))))
 
     next : (b : Bool) → f t ≡ b → add (all (only f ts)) (all (listFrom (λ a. f a && not (elem a ts)) n 0))
         ≡ add (all (keepIf b t (only f ts))) (all (listFrom (λ a. f a && not (elem a (t ∷ ts))) n 0))

@@ -6,10 +6,11 @@ use native.Mathlib.Numerals.{add-one}
 use native.Mathlib.Omega.{arith}
 use mathlib.Core.Path.{_≡_, refl, sym, ap, _∙_}
 use mathlib.Core.Bool.{true, false}
-use mathlib.Core.List.{List, [], _∷_, _++_, append-assoc}
+use mathlib.Core.List.{List, [], _∷_, _++_}
 use lib.ListN.{length, drop, getD, set, length-set, length-append, length-drop, drop-of-length-le}
-use lib.Seq.{drop-cons, getD-set-same, getD-set-other, set-at}
+use lib.Seq.{drop-cons, getD-set-same, getD-set-other}
 use lib.IntN.{ℤ}
+use Rattle.lists.proofs.Lists.{written-next}
 use Rattle.txset.specs.Sets.{positions}
 use Rattle.feefrac.specs.declared.FeeFrac.{FeeFrac}
 use Rattle.feefrac.specs.Rate.{zeroRate, rateAt, sum, higher}
@@ -142,9 +143,7 @@ length-lengths st (suc n) = omega (arith, length-append (lengthsOf (stk st n)) (
 pub copy-turn : (st : List Chunk) (room : List ℕ) (j : ℕ) → j < length room
     → set (lengthsOf (stk st j) ++ drop j room) j (getD st j none .len) ≡ lengthsOf (stk st (j + 1)) ++ drop (j + 1) room
 unfolding stk lengthsOf
-copy-turn st room j h =
-    rw (add-one, drop-cons room j 0, set-at (lengthsOf (stk st j)) (getD room j 0) (drop (suc j) room) (getD st j none .len) j (length-lengths st j))
-    (sym (append-assoc (lengthsOf (stk st j)) (getD st j none .len ∷ []) (drop (suc j) room)))
+copy-turn st room j h = written-next (lengthsOf (stk st j)) room j (getD st j none .len) (length-lengths st j) h ∙ rw add-one
 
 -- the room keeps its length
 pub copied-length : (st : List Chunk) (room : List ℕ) (j : ℕ) {out : List ℕ} → out ≡ lengthsOf (stk st j) ++ drop j room → j ≤ length room

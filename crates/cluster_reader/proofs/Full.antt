@@ -1,6 +1,6 @@
 -- A text that is longer than the lines of the largest cluster: whatever stands in it, it is no cluster. Assumes nothing.
 use mathlib.Core.Path.{_≡_, refl, _∙_}
-use mathlib.Core.Bool.{Bool, true, false, cond, _&&_}
+use mathlib.Core.Bool.{true, _&&_}
 use mathlib.Core.List.{List, [], _∷_, _++_}
 use Prim.Native.Nat.{ℕ, zero, suc, _+_, _*_, _≤_, _<_}
 use native.Mathlib.Omega.{arith}
@@ -9,10 +9,10 @@ use lib.IntN.{ℤ}
 use Rattle.cluster_reader.specs.declared.Input.the-variants.{Members}
 use Rattle.cluster_reader.specs.Numerals.{numberOf, feeOf}
 use Rattle.cluster_reader.specs.Lines.{behind, longestLine, longestText, isField, valueOf}
-use Rattle.cluster_reader.specs.Reading.{feeKey, sizeKey, parentsKey, isNumber, isFee, parts, areNumbers}
+use Rattle.cluster_reader.specs.Reading.{feeKey, sizeKey, parentsKey, isNumber, isFee}
 use Rattle.cluster_reader.specs.Reading.{isMember, memberFee, memberSize, memberParents, nextMember, Read, refused, members, read, told, firstTold}
 use Rattle.cluster_reader.specs.Steps.{nextLine}
-use Rattle.lists.proofs.Bools.{and-both}
+use Rattle.lists.proofs.Bools.{and-both, cond-where}
 use Rattle.cluster_reader.proofs.Places.{field-passes}
 use Rattle.cluster_reader.proofs.Reading.{read-count}
 
@@ -35,13 +35,10 @@ unfolding members
 members-full zero [] fs ss ps l = absurd (omega arith)
 members-full zero (x ∷ xs) fs ss ps l = refl
 members-full (suc k) xs fs ss ps l =
-    go (isMember xs) refl
+    cond-where (λ (r : Read). r ≡ refused 13) (isMember xs)
     (λ e. members-full k (nextMember xs) (fs ++ (memberFee xs ∷ [])) (ss ++ (memberSize xs ∷ [])) (ps ++ (memberParents xs ∷ []))
     (omega (arith, member-passes xs e)))
-  where
-    go : {r : Read} (b : Bool) → isMember xs ≡ b → (isMember xs ≡ true → r ≡ refused 13) → cond b r (refused 13) ≡ refused 13
-    go true e f = f e
-    go false e f = refl
+    (λ _. refl)
 
 -- a first line that gives a number of members, in a text that has more than those can have
 pub count-full : (text : List ℕ) (n : ℕ) → firstTold text ≡ told (Members n) → longestText < length text → read text ≡ refused 13

@@ -15,7 +15,7 @@ use Rattle.cluster_reader.specs.Numerals.{isNil, numberOf}
 use Rattle.cluster_reader.specs.Lines.{behind, isField, valueOf}
 use Rattle.cluster_reader.specs.Reading.{nKey, isNumber, numberIn, isMember, memberFee, memberSize, memberParents, nextMember}
 use Rattle.cluster_reader.specs.Reading.{Read, refused, cluster, members, read}
-use Rattle.lists.proofs.Bools.{cond-first, cond-second}
+use Rattle.lists.proofs.Bools.{cond-first, cond-second, cases}
 
 -- three lists of n
 record Long (n : ℕ) (fs : List ℤ) (ss ps : List ℕ) : Type 0 where
@@ -70,11 +70,9 @@ members-refused : (k : ℕ) (xs : List ℕ) (fs : List ℤ) (ss ps : List ℕ) {
 unfolding members
 members-refused zero xs fs ss ps {j} e = let z = cond-second (isNil xs) e (λ q. not-read (sym q)) .1 in cc
 members-refused (suc k) xs fs ss ps {j} e =
-    go (isMember xs) e (members-refused k (nextMember xs) (fs ++ (memberFee xs ∷ [])) (ss ++ (memberSize xs ∷ [])) (ps ++ (memberParents xs ∷ [])))
-  where
-    go : (b : Bool) {r : Read} → cond b r (refused 13) ≡ refused j → (r ≡ refused j → j ≡ 13) → j ≡ 13
-    go true q f = f q
-    go false q f = cc
+    cases (isMember xs)
+    (λ t. members-refused k (nextMember xs) (fs ++ (memberFee xs ∷ [])) (ss ++ (memberSize xs ∷ [])) (ps ++ (memberParents xs ∷ [])) (rw t at e))
+    (λ t. let z : refused 13 ≡ refused j = rw t at e in cc)
 
 -- so a text is refused with 2 or 13, and never with 0
 pub read-refused : (text : List ℕ) {j : ℕ} → read text ≡ refused j → 0 < j

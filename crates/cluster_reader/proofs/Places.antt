@@ -1,16 +1,16 @@
 -- Laws of specs/Lines.antt, at a place of the text. Assumes nothing.
 use mathlib.Core.Path.{_≡_, refl, sym, ap, ap₂, _∙_}
-use mathlib.Core.Bool.{Bool, true, false, cond, and-false}
+use mathlib.Core.Bool.{true, false, and-false}
 use mathlib.Core.List.{List, [], _∷_, _++_}
-use Prim.Native.Nat.{ℕ, zero, suc, _+_, _-_, _≤_, _<_}
-use native.Mathlib.Nat.{sub-zero, zero-sub, suc-sub-suc, add-zero, add-suc, suc-add}
+use Prim.Native.Nat.{ℕ, zero, suc, _+_, _-_, _≤_, _<_, suc-le-suc}
+use native.Mathlib.Nat.{sub-zero, zero-sub, suc-sub-suc, add-zero, add-suc, suc-add, not-suc-le-zero, le-of-suc-le-suc}
 use native.Mathlib.Numerals.{add-one}
 use native.Mathlib.Omega.{arith}
 use lib.Dec.{eqb, ltb, leb}
 use lib.ListN.{length, getD, take, drop, drop-of-length-le, length-drop, length-append}
 use lib.Seq.{drop-cons, drop-drop, take-nil}
 use borrow.Author.Tests.{le-leb, lt-leb, lt-ltb, le-ltb, eq-eqb, ne-eqb, ltb-true, leb-true}
-use Rattle.lists.proofs.Bools.{clash, and-both, cond-first, cond-second}
+use Rattle.lists.proofs.Bools.{clash, and-both, cond-first, cond-second, cases, cond-where}
 use Rattle.cluster_reader.specs.declared.lines.Line.the-variants.{Ends, Malformed}
 use Rattle.cluster_reader.specs.declared.lines.Value.the-variants as value
 use Rattle.cluster_reader.specs.declared.lines.Span.{Span}
@@ -22,11 +22,8 @@ use Rattle.cluster_reader.specs.Steps.{placeOf, lineAt, fieldAt, hasEnd}
 before-le : (b : ℕ) (xs : List ℕ) → length (before b xs) ≤ length xs
 unfolding before
 before-le b [] = omega arith
-before-le b (x ∷ xs) = go (eqb x b) (before-le b xs)
-  where
-    go : (t : Bool) → length (before b xs) ≤ length xs → length (cond t [] (x ∷ before b xs)) ≤ suc (length xs)
-    go true h = omega arith
-    go false h = omega arith
+before-le b (x ∷ xs) =
+    cond-where (λ (l : List ℕ). length l ≤ suc (length xs)) (eqb x b) (λ _. omega arith) (λ _. omega (arith, before-le b xs))
 
 module _ (b : ℕ) (text : List ℕ) (i : ℕ) where
   pub place-end : length text ≤ i → placeOf b text i ≡ i
@@ -127,11 +124,8 @@ drop-take (suc k) (suc n) (x ∷ l) = drop-take k n l ∙ ap (λ (m : ℕ). take
 before-take : (b : ℕ) (xs : List ℕ) → take (length (before b xs)) xs ≡ before b xs
 unfolding before
 before-take b [] = refl
-before-take b (x ∷ xs) = go (eqb x b) (before-take b xs)
-  where
-    go : (t : Bool) → take (length (before b xs)) xs ≡ before b xs → take (length (cond t [] (x ∷ before b xs))) (x ∷ xs) ≡ cond t [] (x ∷ before b xs)
-    go true e = refl
-    go false e = ap (λ (l : List ℕ). x ∷ l) e
+before-take b (x ∷ xs) =
+    cond-where (λ (l : List ℕ). take (length l) (x ∷ xs) ≡ l) (eqb x b) (λ _. refl) (λ _. ap (λ (l : List ℕ). x ∷ l) (before-take b xs))
 
 module _ (b : ℕ) (text : List ℕ) (from : ℕ) where
   -- what stands before the place, and behind it
@@ -230,22 +224,14 @@ module _ (key text : List ℕ) (from : ℕ) {xs : List ℕ} (here : drop from te
 before-append : (b : ℕ) (xs ys : List ℕ) → length (before b xs) < length xs → before b (xs ++ ys) ≡ before b xs
 unfolding before
 before-append b [] ys h = absurd (omega arith)
-before-append b (x ∷ xs) ys h = go (eqb x b) (before-append b xs ys) h
-  where
-    go : (t : Bool) → (length (before b xs) < length xs → before b (xs ++ ys) ≡ before b xs)
-        → length (cond t [] (x ∷ before b xs)) < suc (length xs) → cond t [] (x ∷ before b (xs ++ ys)) ≡ cond t [] (x ∷ before b xs)
-    go true f l = refl
-    go false f l = ap (λ (l : List ℕ). x ∷ l) (f (omega arith))
+before-append b (x ∷ xs) ys h =
+    cases (eqb x b) (λ e. rw e) (λ e. rw e (ap (λ (l : List ℕ). x ∷ l) (before-append b xs ys (le-of-suc-le-suc (rw e at h)))))
 
 before-grows : (b : ℕ) (xs ys : List ℕ) → length xs ≤ length (before b xs) → length xs ≤ length (before b (xs ++ ys))
 unfolding before
 before-grows b [] ys h = omega arith
-before-grows b (x ∷ xs) ys h = go (eqb x b) (before-grows b xs ys) h
-  where
-    go : (t : Bool) → (length xs ≤ length (before b xs) → length xs ≤ length (before b (xs ++ ys)))
-        → suc (length xs) ≤ length (cond t [] (x ∷ before b xs)) → suc (length xs) ≤ length (cond t [] (x ∷ before b (xs ++ ys)))
-    go true f l = absurd (omega arith)
-    go false f l = omega (arith, f (omega arith))
+before-grows b (x ∷ xs) ys h =
+    cases (eqb x b) (λ e. absurd (not-suc-le-zero (rw e at h))) (λ e. rw e (suc-le-suc (before-grows b xs ys (le-of-suc-le-suc (rw e at h)))))
 
 -- all that is asked of a first line
 pub record Same (key xs ys : List ℕ) : Type 0 where

@@ -1,13 +1,16 @@
 -- The digits that the kit writes are those of the document, and there are at most twenty. Assumes nothing.
-use mathlib.Core.Path.{_≡_, refl}
-use mathlib.Core.Bool.{Bool, true, false, cond}
-use mathlib.Core.List.{[], _∷_, _++_}
+use mathlib.Core.Path.{_≡_}
+use mathlib.Core.Bool.{true}
+use mathlib.Core.List.{[], _∷_, _++_, List}
 use Prim.Native.Nat.{ℕ, zero, suc, _+_, _-_, _*_, _/_, _%_, _^_, _≤_, _<_}
 use native.Mathlib.Nat.{pow-suc, one-le-pow, pow-le-pow-right}
 use native.Mathlib.Omega.{arith}
-use lib.Dec.{ltb, leb}
+use lib.Dec.{ltb}
 use lib.ListN.{length, length-append}
-use borrow.Author.Tests.{lt-ltb, le-ltb, leb-true, leb-false}
+use borrow.Author.Tests.{lt-ltb, le-ltb}
+use mathlib.Core.Logic.{⊎-elim}
+use Rattle.lists.proofs.Bools.{cond-where}
+use Rattle.lists.proofs.Numbers.{lt-or-ge}
 use Rattle.io.specs.Digits.{digits, Fewest}
 use Rattle.cluster_writer.specs.Writing.{decimalFrom, decimal}
 
@@ -39,13 +42,11 @@ from-digits (suc fuel) n (suc (suc k)) h f =
 
 -- a u64 has at most twenty
 few-digits : (n k : ℕ) → n < 2 ^ 64 → Fewest 10 1 n k → k ≤ 20
-few-digits n k h f = go (leb k 20) refl
-  where
-    go : (b : Bool) → leb k 20 ≡ b → k ≤ 20
-    go true e = leb-true k 20 e
-    go false e =
-        let l : 20 < k = leb-false k 20 e in
-        absurd (omega (arith, f .2 (omega arith), pow-le-pow-right {n = 10} (omega arith) {i = 20} {j = k - 1} (omega arith)))
+few-digits n k h f =
+    ⊎-elim
+    (λ l. absurd (omega (arith, f .2 (omega arith), pow-le-pow-right {n = 10} (omega arith) {i = 20} {j = k - 1} (omega arith))))
+    (λ l. l)
+    (lt-or-ge 20 k)
 
 -- the fewest digits of a u64 are its decimal
 pub decimal-digits : (n k : ℕ) → n < 2 ^ 64 → Fewest 10 1 n k → decimal n ≡ digits 10 k n
@@ -55,11 +56,10 @@ decimal-digits n k h f = from-digits 20 n k (few-digits n k h f) f
 length-from : (fuel n : ℕ) → length (decimalFrom fuel n) ≤ fuel
 unfolding decimalFrom
 length-from zero n = omega arith
-length-from (suc fuel) n = go (ltb n 10) (length-from fuel (n / 10))
-  where
-    go : (b : Bool) → length (decimalFrom fuel (n / 10)) ≤ fuel → length (cond b [] (decimalFrom fuel (n / 10)) ++ ((48 + n % 10) ∷ [])) ≤ suc fuel
-    go true h = omega arith
-    go false h = omega (arith, length-append (decimalFrom fuel (n / 10)) ((48 + n % 10) ∷ []))
+length-from (suc fuel) n =
+    let ds = decimalFrom fuel (n / 10) in
+    cond-where (λ (l : List ℕ). length (l ++ ((48 + n % 10) ∷ [])) ≤ suc fuel) (ltb n 10) (λ _. omega arith)
+    (λ _. omega (arith, length-from fuel (n / 10), length-append ds ((48 + n % 10) ∷ [])))
 
 -- a decimal has at most twenty bytes
 pub decimal-length : (n : ℕ) → length (decimal n) ≤ 20

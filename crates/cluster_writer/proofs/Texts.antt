@@ -1,17 +1,16 @@
 -- The texts piece by piece, as the loops write them, and that all of them fit the room. Assumes nothing.
 use mathlib.Core.Path.{_≡_, refl, sym, ap, _∙_}
-use mathlib.Core.Bool.{Bool, true, false}
+use mathlib.Core.Bool.{true, false}
 use mathlib.Core.Logic.{_⊎_, inl, inr, ⊎-elim}
 use mathlib.Core.List.{List, [], _∷_, _++_, append-nil}
 use Prim.Native.Nat.{ℕ, suc, _+_, _-_, _*_, _≤_, _<_, min}
-use native.Mathlib.Nat.{le-of-lt, min-eq-left, min-eq-right}
 use native.Mathlib.Numerals.{add-one}
 use native.Mathlib.Omega.{arith}
 use lib.IntN.{ℤ, pos, negsuc, natAbs}
 use lib.ListN.{length, take, drop, getD, length-append, length-drop, drop-of-length-le}
 use lib.Seq.{drop-cons, drop-drop, take-all, take-length, drop-length}
-use lib.Dec.{leb}
-use borrow.Author.Tests.{ne-eqb, leb-true, leb-false, le-leb, lt-leb}
+use borrow.Author.Tests.{ne-eqb, le-leb, lt-leb}
+use Rattle.lists.proofs.Numbers.{lt-or-ge}
 use Rattle.feefrac.proofs.Signed.{Le, Lt}
 use Rattle.feefrac.specs.declared.FeeFrac.{FeeFrac}
 use Rattle.txset.specs.Sets.{positions}
@@ -89,11 +88,7 @@ signed-down (negsuc n) h = refl
 
 -- taking or dropping more than there is
 min-is : (n m : ℕ) → (min n m ≡ n) ⊎ ((min n m ≡ m) × (m ≤ n))
-min-is n m = go (leb n m) refl
-  where
-    go : (b : Bool) → leb n m ≡ b → (min n m ≡ n) ⊎ ((min n m ≡ m) × (m ≤ n))
-    go true e = inl (min-eq-left (leb-true n m e))
-    go false e = inr (min-eq-right (le-of-lt (leb-false n m e)), le-of-lt (leb-false n m e))
+min-is n m = ⊎-elim (λ l. inl (omega arith)) (λ l. inr (omega arith, l)) (lt-or-ge n m)
 
 take-min : (n : ℕ) (xs : List ℕ) → take (min n (length xs)) xs ≡ take n xs
 take-min n xs = ⊎-elim (λ e. rw e) (λ e. rw (e .0, take-length xs) (sym (take-all n xs (e .1)))) (min-is n (length xs))

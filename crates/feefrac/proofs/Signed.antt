@@ -1,7 +1,7 @@
 -- An integer by its two parts, of which one is zero: signed sums and orders become facts of naturals, which `omega` proves.
 -- No law of the parts needs a bound. Assumes nothing.
 use mathlib.Core.Path.{_≡_, refl, sym, ap, _∙_}
-use mathlib.Core.Bool.{Bool, true, false}
+use mathlib.Core.Bool.{true, false}
 use Prim.Native.Nat.{ℕ, zero, suc, _+_, _*_, _≤_, _<_}
 use native.Mathlib.Nat.{le-of-lt, min-eq-left, min-eq-right, zero-mul, mul-le-mul}
 use native.Mathlib.Omega.{arith}
@@ -12,6 +12,8 @@ use mir.Syntax.{w64}
 use mir.Val.{Fits, SFits, toZ, ofZ}
 use mir.Facts.{toZ-ofZ, toZ-pos, fits-natAbs}
 use borrow.Author.Tests.{lt-ltb, le-ltb, le-leb, lt-leb, leb-true, leb-false, ltb-true, ltb-false}
+use Rattle.lists.proofs.Bools.{cases}
+use Rattle.lists.proofs.Numbers.{leb-same, ltb-same}
 use Rattle.feefrac.specs.Rate.{heldFee}
 
 -- how far above zero, and how far below
@@ -31,32 +33,17 @@ Le x y = up x + down y ≤ up y + down x
 abbrev pub Lt : ℤ → ℤ → Type 0
 Lt x y = up x + down y < up y + down x
 
--- two tests agree where their numbers stand alike
-pub same-ltb : (a b c d : ℕ) → (a < b → c < d) → (b ≤ a → d ≤ c) → ltb a b ≡ ltb c d
-same-ltb a b c d f g = go (ltb a b) refl
-  where
-    go : (t : Bool) → ltb a b ≡ t → ltb a b ≡ ltb c d
-    go true e = e ∙ sym (lt-ltb c d (f (ltb-true a b e)))
-    go false e = e ∙ sym (le-ltb c d (g (ltb-false a b e)))
-
-pub same-leb : (a b c d : ℕ) → (a ≤ b → c ≤ d) → (b < a → d < c) → leb a b ≡ leb c d
-same-leb a b c d f g = go (leb a b) refl
-  where
-    go : (t : Bool) → leb a b ≡ t → leb a b ≡ leb c d
-    go true e = e ∙ sym (le-leb c d (f (leb-true a b e)))
-    go false e = e ∙ sym (lt-leb c d (g (leb-false a b e)))
-
 pub less-parts : (x y : ℤ) → ltZ x y ≡ ltb (up x + down y) (up y + down x)
-less-parts (pos m) (pos n) = same-ltb m n (m + 0) (n + 0) (λ h. omega arith) (λ h. omega arith)
+less-parts (pos m) (pos n) = ltb-same m n (m + 0) (n + 0) (λ h. omega arith) (λ h. omega arith)
 less-parts (pos m) (negsuc n) = sym (le-ltb (m + suc n) 0 (omega arith))
 less-parts (negsuc m) (pos n) = sym (lt-ltb 0 (n + suc m) (omega arith))
-less-parts (negsuc m) (negsuc n) = same-ltb n m (0 + suc n) (0 + suc m) (λ h. omega arith) (λ h. omega arith)
+less-parts (negsuc m) (negsuc n) = ltb-same n m (0 + suc n) (0 + suc m) (λ h. omega arith) (λ h. omega arith)
 
 pub most-parts : (x y : ℤ) → leZ x y ≡ leb (up x + down y) (up y + down x)
-most-parts (pos m) (pos n) = same-leb m n (m + 0) (n + 0) (λ h. omega arith) (λ h. omega arith)
+most-parts (pos m) (pos n) = leb-same m n (m + 0) (n + 0) (λ h. omega arith) (λ h. omega arith)
 most-parts (pos m) (negsuc n) = sym (lt-leb (m + suc n) 0 (omega arith))
 most-parts (negsuc m) (pos n) = sym (le-leb 0 (n + suc m) (omega arith))
-most-parts (negsuc m) (negsuc n) = same-leb n m (0 + suc n) (0 + suc m) (λ h. omega arith) (λ h. omega arith)
+most-parts (negsuc m) (negsuc n) = leb-same n m (0 + suc n) (0 + suc m) (λ h. omega arith) (λ h. omega arith)
 
 -- a signed local is kept as its bits: a number as code sees it again
 abbrev pub Z : ℤ → ℤ
@@ -83,11 +70,7 @@ pub record Sum (x y z : ℤ) : Type 0 where
   pub parts : up z + (down x + down y) ≡ down z + (up x + up y)
 
 sub-parts : (m n : ℕ) → up (subℕ m n) + n ≡ down (subℕ m n) + m
-sub-parts m n = go (ltb m n) refl
-  where
-    go : (t : Bool) → ltb m n ≡ t → up (subℕ m n) + n ≡ down (subℕ m n) + m
-    go true e = rw e (omega (arith, ltb-true m n e))
-    go false e = rw e (omega (arith, ltb-false m n e))
+sub-parts m n = cases (ltb m n) (λ e. rw e (omega (arith, ltb-true m n e))) (λ e. rw e (omega (arith, ltb-false m n e)))
 
 pub sum : (x y : ℤ) → Sum x y (x +ℤ y)
 sum (pos m) (pos n) = record { parts = omega arith }

@@ -9,6 +9,11 @@ use lib.Dec.{T}
 pub clash {ℓ} : {A : Type ℓ} {b : Bool} → b ≡ true → b ≡ false → A
 clash p q = absurd (subst T (sym p ∙ q) tt)
 
+-- one or the other, with what it is
+pub cases {ℓ} : {A : Type ℓ} (b : Bool) → (b ≡ true → A) → (b ≡ false → A) → A
+cases true t f = t refl
+cases false t f = f refl
+
 pub and-left : (b c : Bool) → (b && c) ≡ true → b ≡ true
 and-left true c e = refl
 and-left false c e = e

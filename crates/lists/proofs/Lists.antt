@@ -4,14 +4,16 @@ use mathlib.Core.Path.{_≡_, refl, sym, ap, ap₂, _∙_}
 use mathlib.Core.Bool.{Bool, true, false, not, _&&_, _||_, or-false, or-true, or-assoc, and-false, and-assoc, false≢true, and-eq-true-iff}
 use mathlib.Core.Logic.{_⊎_, inl, inr, ⊎-elim}
 use mathlib.Core.List.{List, [], _∷_, _++_, List·Memᴰ, List·Memᴰ·cases-cons, List·Memᴰ·not-nil}
-use Prim.Native.Nat.{ℕ, zero, suc, _<_}
+use Prim.Native.Nat.{ℕ, zero, suc, _+_, _<_}
 use native.Mathlib.Nat.{not-suc-le-zero, le-of-suc-le-suc}
+use native.Mathlib.Numerals.{add-one}
 use native.Mathlib.Omega.{arith}
 use lib.Dec.{eqb}
-use lib.ListN.{length, getD, length-append}
+use lib.ListN.{length, getD, set, drop, length-append}
+use lib.Seq.{drop-cons, set-at, append-snoc}
 use borrow.Author.Tests.{eq-eqb, eqb-true, not-true}
 use Rattle.lists.specs.Lists.{anyOf, allOf, elem, distinct, same}
-use Rattle.lists.proofs.Bools.{clash, and-both, or-left, or-right, or-either, without-or}
+use Rattle.lists.proofs.Bools.{clash, and-both, or-left, or-right, or-either, without-or, cases}
 use Rattle.lists.proofs.Numbers.{flip}
 
 -- ---- two lists together
@@ -102,11 +104,8 @@ pub distinct-front : (xs ys : List ℕ) → distinct xs ≡ false → distinct (
 unfolding distinct
 distinct-front [] ys e = clash refl e
 distinct-front (x ∷ xs) ys e =
-    ap (λ (b : Bool). not b && distinct (xs ++ ys)) (elem-append x xs ys) ∙ go (elem x xs) (distinct xs) e (distinct-front xs ys)
-  where
-    go : (a b : Bool) → (not a && b) ≡ false → (b ≡ false → distinct (xs ++ ys) ≡ false) → (not (a || elem x ys) && distinct (xs ++ ys)) ≡ false
-    go true b f h = refl
-    go false b f h = ap (λ (d : Bool). not (elem x ys) && d) (h f) ∙ and-false (not (elem x ys))
+    ap (λ (b : Bool). not b && distinct (xs ++ ys)) (elem-append x xs ys)
+    ∙ cases (elem x xs) (λ m. rw m) (λ m. rw (m, distinct-front xs ys (rw m at e)) (and-false (not (elem x ys))))
 
 -- what is in one list is not in the other, where none comes twice
 pub distinct-apart : (xs ys : List ℕ) (i : ℕ) → distinct (xs ++ ys) ≡ true → elem i xs ≡ true → elem i ys ≡ false
@@ -118,6 +117,14 @@ distinct-apart (x ∷ xs) ys i d e =
     (λ z. rw z (or-right (elem x xs) (elem x ys) (sym (elem-append x xs ys) ∙ not-true (elem x (xs ++ ys)) (b .0))))
     (λ m. distinct-apart xs ys i (b .1) m)
     (in-cons i x xs e)
+
+-- ---- a room whose start is written
+
+-- one more at the next place
+pub written-next : {A : Type 0} (new room : List A) (k : ℕ) (x : A) → length new ≡ k → k < length room
+    → set (new ++ drop k room) k x ≡ (new ++ (x ∷ [])) ++ drop (k + 1) room
+written-next new room k x e l =
+    rw (add-one, drop-cons room k x l, set-at new (getD room k x) (drop (suc k) room) x k e) (sym (append-snoc new x (drop (suc k) room)))
 
 -- ---- what stands before what
 

@@ -1,6 +1,6 @@
 -- Lists of numbers: how many numbers below a bound a list leaves out, and lists in which none comes twice. Assumes nothing.
 use mathlib.Core.Path.{_≡_, refl, sym, ap, ap₂, _∙_}
-use mathlib.Core.Bool.{Bool, true, false, not, _&&_, _||_, and-true, or-comm}
+use mathlib.Core.Bool.{Bool, true, false, not, _&&_, _||_, and-true, or-comm, or-false}
 use mathlib.Core.Logic.{⊎-elim}
 use mathlib.Core.List.{List, [], _∷_, _++_}
 use Prim.Native.Nat.{ℕ, suc, _+_, _≤_, _<_}
@@ -10,7 +10,7 @@ use lib.ListN.{length}
 use borrow.Author.Tests.{eqb-true, ne-eqb, not-true, not-false}
 use Rattle.lists.specs.Below.{bit, countFrom}
 use Rattle.lists.specs.Lists.{anyOf, elem, distinct}
-use Rattle.lists.proofs.Bools.{clash, and-both, not-or, is-false}
+use Rattle.lists.proofs.Bools.{clash, and-both, not-or, is-false, cases}
 use Rattle.lists.proofs.Below.{count-ext, count-without}
 use Rattle.lists.proofs.Ranges.{count-all, count-none, count-zero, count-but, count-parts}
 use Rattle.lists.proofs.Lists.{elem-snoc, elem-head, elem-tail, in-snoc, distinct-snoc}
@@ -43,11 +43,10 @@ module _ (n t : ℕ) (l m : List ℕ) (more : (j : ℕ) → elem j m ≡ (elem j
 
   -- and as many, where it was not
   pub missing-same : (t < n → elem t l ≡ true) → missing n m ≡ missing n l
-  missing-same h = count-ext (λ i. not (elem i m)) (λ i. not (elem i l)) n 0 (λ j _ b. ap not (more j ∙ go j (omega arith) (eqb j t) refl))
+  missing-same h = count-ext (λ i. not (elem i m)) (λ i. not (elem i l)) n 0 (λ j _ b. ap not (more j ∙ there j (omega arith)))
     where
-      go : (j : ℕ) → j < n → (b : Bool) → eqb j t ≡ b → (elem j l || b) ≡ elem j l
-      go j b true e = let z : j ≡ t = eqb-true j t e in rw (z, h (rw z at b))
-      go j b false e = or-comm (elem j l) false
+      there : (j : ℕ) → j < n → (elem j l || eqb j t) ≡ elem j l
+      there j b = cases (eqb j t) (λ e. let z : j ≡ t = eqb-true j t e in rw (z, h (rw z at b))) (λ e. rw e (or-false (elem j l)))
 
 -- one more at the end, or at the head
 pub missing-snoc : (n : ℕ) (l : List ℕ) (t : ℕ) → t < n → elem t l ≡ false → missing n l ≡ suc (missing n (l ++ (t ∷ [])))

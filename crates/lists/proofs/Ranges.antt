@@ -10,7 +10,7 @@ use lib.Dec.{eqb, ltb}
 use lib.ListN.{length}
 use borrow.Author.Tests.{lt-ltb, le-ltb, eqb-true, eqb-false}
 use Rattle.lists.specs.Below.{bit, anyFrom, countFrom, listFrom}
-use Rattle.lists.proofs.Bools.{is-false}
+use Rattle.lists.proofs.Bools.{is-false, cases}
 use Rattle.lists.proofs.Below.{list-ext, list-split, list-nil, at-none, any-split, count-list, count-ext, count-without}
 
 -- f is g below n, and nothing past it
@@ -94,11 +94,9 @@ count-zero f n z i l =
 pub count-but : (f g : ℕ → Bool) (x k i : ℕ) → ((j : ℕ) → (j ≡ x → ⊥) → f j ≡ g j) → countFrom f k i ≤ suc (countFrom g k i)
 unfolding countFrom
 count-but f g x zero i h = omega arith
-count-but f g x (suc k) i h = go (eqb i x) refl (count-but f g x k (suc i) h)
-  where
-    go : (b : Bool) → eqb i x ≡ b → countFrom f k (suc i) ≤ suc (countFrom g k (suc i))
-        → bit (f i) + countFrom f k (suc i) ≤ suc (bit (g i) + countFrom g k (suc i))
-    go true e ih =
-        let z : i ≡ x = eqb-true i x e in
-        omega (arith, bit-le (f i) true (λ _. refl), count-ext f g k (suc i) (λ j l _. h j (λ y. omega arith)))
-    go false e ih = omega (arith, ap bit (h i (eqb-false i x e)))
+count-but f g x (suc k) i h =
+    cases (eqb i x)
+    (λ e.
+    let z : i ≡ x = eqb-true i x e in
+    omega (arith, bit-le (f i) true (λ _. refl), count-ext f g k (suc i) (λ j l _. h j (λ y. omega arith))))
+    (λ e. omega (arith, count-but f g x k (suc i) h, ap bit (h i (eqb-false i x e))))

@@ -14,7 +14,7 @@ use borrow.Author.Tests.{eqb-true, eqb-false, not-true, not-false}
 use Rattle.feefrac.specs.Rate.{rateAt}
 use Rattle.lists.specs.Below.{allFrom, countFrom, firstFrom, listFrom}
 use Rattle.lists.specs.Lists.{anyOf, elem}
-use Rattle.lists.proofs.Bools.{clash, and-left, and-right, or-either, implies}
+use Rattle.lists.proofs.Bools.{clash, and-left, and-right, or-either, implies, cases}
 use Rattle.lists.proofs.Below.{elem-in, all-at, at-all, count-without, first-is, elem-below}
 use Rattle.lists.proofs.Lists.{elem-append, elem-left, elem-one, elem-head, without-append, After, in-append, in-cons}
 use Rattle.lists.proofs.Numbers.{lt-or-ge}
@@ -40,20 +40,19 @@ pub record FirstOf (m list : List ℕ) : Type 0 where
 pub first-of : (m list : List ℕ) (i : ℕ) → elem i list ≡ true → elem i m ≡ true → FirstOf m list
 unfolding elem anyOf
 first-of m [] i e p = clash e refl
-first-of m (x ∷ list) i e p = go (elem x m) refl (λ h. first-of m list i h p)
-  where
-    go : (b : Bool) → elem x m ≡ b → (elem i list ≡ true → FirstOf m list) → FirstOf m (x ∷ list)
-    go true h ih = record { front = []; is = x; back = list; split = refl; of = h; before = λ y q. clash q refl }
-    go false h ih =
-        let f = ih (⊎-elim (λ z. clash p (ap (λ (y : ℕ). elem y m) z ∙ h)) (λ q. q) (in-cons i x list e)) in
-        record {
-          front = x ∷ f .front;
-          is = f .is;
-          back = f .back;
-          split = ap (λ (l : List ℕ). x ∷ l) (f .split);
-          of = f .of;
-          before = λ y q. ⊎-elim (λ z. ap (λ (y : ℕ). elem y m) z ∙ h) (λ r. f .before y r) (in-cons y x (f .front) q);
-        }
+first-of m (x ∷ list) i e p =
+    cases (elem x m)
+    (λ h. record { front = []; is = x; back = list; split = refl; of = h; before = λ y q. clash q refl })
+    (λ h.
+    let f = first-of m list i (⊎-elim (λ z. clash p (ap (λ (y : ℕ). elem y m) z ∙ h)) (λ q. q) (in-cons i x list e)) p in
+    record {
+      front = x ∷ f .front;
+      is = f .is;
+      back = f .back;
+      split = ap (λ (l : List ℕ). x ∷ l) (f .split);
+      of = f .of;
+      before = λ y q. ⊎-elim (λ z. ap (λ (y : ℕ). elem y m) z ∙ h) (λ r. f .before y r) (in-cons y x (f .front) q);
+    })
 
 -- ---- a list that is cut
 
@@ -173,31 +172,29 @@ module _ (n : ℕ) (anc : ℕ → ℕ → Bool) (order : List ℕ) (after : Afte
   unfolding memberReady
   first-member c out xs ys t h s l e before =
       at-all (λ a. not (anc t a) || (eqb a t || elem a out)) n 0
-      (λ a _ m. implies (anc t a) (eqb a t || elem a out) (λ p. go a (omega arith) p (eqb a t) refl))
+      (λ a _ m. implies (anc t a) (eqb a t || elem a out) (λ p. go a (omega arith) p))
     where
-      go : (a : ℕ) → a < n → anc t a ≡ true → (b : Bool) → eqb a t ≡ b → (b || elem a out) ≡ true
-      go a m p true z = refl
-      go a m p false z =
-          ⊎-elim
-          (λ q. before a m (after xs ys t a s m p (eqb-false a t z)) q)
-          (λ q. q)
-          (or-either (elem a c) (elem a out) (ready-closed n anc out c h t a l e m p))
+      go : (a : ℕ) → a < n → anc t a ≡ true → (eqb a t || elem a out) ≡ true
+      go a m p =
+          cases (eqb a t) (λ z. rw z) (λ z.
+          rw z
+          (⊎-elim (before a m (after xs ys t a s m p (eqb-false a t z))) (λ q. q)
+          (or-either (elem a c) (elem a out) (ready-closed n anc out c h t a l e m p))))
 
   -- all chunks before the k-th are gone: it is ready
   pub first-chunk : (cs : List (List ℕ)) → Parts cs order → (gone out : List ℕ) (k : ℕ) → Gone n cs gone out
       → ((j : ℕ) → j < k → elem j gone ≡ true) → chunkReady n anc out (chunkAt cs k) ≡ true
-  first-chunk cs parts gone out k g before = closed-ready n anc out (chunkAt cs k) (λ t a l e m p. go t a e m p (eqb a t) refl)
-    where
-      go : (t a : ℕ) → elem t (chunkAt cs k) ≡ true → a < n → anc t a ≡ true → (b : Bool) → eqb a t ≡ b
-          → (elem a (chunkAt cs k) || elem a out) ≡ true
-      go t a e m p true z = ap (λ (b : Bool). b || elem a out) (ap (λ (x : ℕ). elem x (chunkAt cs k)) (eqb-true a t z) ∙ e)
-      go t a e m p false z =
-          let s = parts k t e in
-          let b = s .before a (after (s .front) (s .back) t a (s .split) m p (eqb-false a t z)) in
-          ⊎-elim
-          (λ q. ap (λ (b : Bool). b || elem a out) (ap (λ (j : ℕ). elem a (chunkAt cs j)) (sym q) ∙ b .1 .1))
-          (λ q. ap (λ (b : Bool). elem a (chunkAt cs k) || b) (g (b .0) a (before (b .0) q) m (b .1 .1)) ∙ or-true (elem a (chunkAt cs k)))
-          (eq-or-lt-of-le (b .1 .0))
+  first-chunk cs parts gone out k g before =
+      closed-ready n anc out (chunkAt cs k) (λ t a l e m p.
+      cases (eqb a t)
+      (λ z. rw (eqb-true a t z, e))
+      (λ z.
+      let s = parts k t e in
+      let b = s .before a (after (s .front) (s .back) t a (s .split) m p (eqb-false a t z)) in
+      ⊎-elim
+      (λ q. ap (λ (b : Bool). b || elem a out) (ap (λ (j : ℕ). elem a (chunkAt cs j)) (sym q) ∙ b .1 .1))
+      (λ q. ap (λ (b : Bool). elem a (chunkAt cs k) || b) (g (b .0) a (before (b .0) q) m (b .1 .1)) ∙ or-true (elem a (chunkAt cs k)))
+      (eq-or-lt-of-le (b .1 .0))))
 
   module _ (fs : List ℤ) (ss : List ℕ) where
     -- while a chunk is left, one goes next
@@ -244,20 +241,15 @@ module _ (n : ℕ) (anc : ℕ → ℕ → Bool) (order : List ℕ) (after : Afte
       unfolding inside
       inside-all c zero out h d i l e =
           not-false (elem i out) (ap (λ (a : Bool). a && not (elem i out)) (sym e) ∙ count-zero (λ t. elem t c && not (elem t out)) n d i l)
-      inside-all c (suc k) out h d i l e = go (elem i out) refl (λ new r m. inside-all c k new r m i l e)
-        where
-          go : (b : Bool) → elem i out ≡ b
-              → ((new : List ℕ) → chunkReady n anc new c ≡ true → due n c new ≤ k → elem i (inside fs ss n anc c k new) ≡ true)
-              → elem i (inside fs ss n anc c (suc k) out) ≡ true
-          go true q ih = inside-keeps fs ss n anc c (suc k) out i q
-          go false q ih =
-              let b = next-member c out i h l e q in
-              let t = b .0 in
-              let r = may-ready n anc c out t (b .1 .below) (b .1 .has) in
-              rw (b .1 .is)
-              (ih (out ++ (t ∷ []))
-              (closed-ready n anc (out ++ (t ∷ [])) c (closed-more n anc out c t (ready-closed n anc out c h)))
-              (omega (arith, due-less n c out t (r .below) (r .of) (r .new))))
+      inside-all c (suc k) out h d i l e =
+          cases (elem i out) (inside-keeps fs ss n anc c (suc k) out i) (λ q.
+          let b = next-member c out i h l e q in
+          let t = b .0 in
+          let r = may-ready n anc c out t (b .1 .below) (b .1 .has) in
+          rw (b .1 .is)
+          (inside-all c k (out ++ (t ∷ []))
+          (closed-ready n anc (out ++ (t ∷ [])) c (closed-more n anc out c t (ready-closed n anc out c h)))
+          (omega (arith, due-less n c out t (r .below) (r .of) (r .new))) i l e))
 
 -- ---- all rounds
 

@@ -3,21 +3,20 @@ use mathlib.Core.Path.{_≡_, refl, sym, ap, ap₂, _∙_, subst}
 use mathlib.Core.Bool.{Bool, true, false, not, _&&_, _||_, and-assoc, and-eq-true-iff}
 use mathlib.Core.List.{List, [], _∷_, _++_, append-nil}
 use Prim.Native.Nat.{ℕ, zero, suc, _+_, _≤_, _<_}
-use native.Mathlib.Numerals.{add-one}
 use native.Mathlib.Omega.{arith}
 use lib.Dec.{eqb, ltb}
 use lib.IntN.{ℤ}
-use lib.ListN.{length, drop, set, getD, length-append, length-set}
-use lib.Seq.{drop-cons, set-at, append-snoc}
+use lib.ListN.{length, set, length-append, length-set}
 use borrow.Author.Tests.{eqb-true, not-true}
+use mathlib.Core.Logic.{⊎-elim}
 use Rattle.feefrac.specs.Rate.{rateAt}
 use Rattle.txset.specs.declared.TxSet.{TxSet}
 use Rattle.lists.specs.Below.{listFrom}
 use Rattle.lists.specs.Lists.{elem, only}
 use Rattle.txset.specs.Sets.{positions, isPosition, mem, members, size, isEmpty, memAt}
 use Rattle.lists.proofs.Ranges.{list-below}
-use Rattle.lists.proofs.Lists.{elem-snoc}
-use Rattle.lists.proofs.Bools.{without-or}
+use Rattle.lists.proofs.Lists.{elem-snoc, written-next}
+use Rattle.lists.proofs.Bools.{without-or, or-either}
 use Rattle.txset.proofs.Sets.{mem-position, size-without, position-and, size-most, size-more, size-in}
 use Rattle.txset.proofs.Walk.{walk-done}
 use Rattle.feeset.specs.Scan.{best, ranksAbove}
@@ -52,11 +51,7 @@ pub placed-more : {out : List ℕ} {done : TxSet} {len : ℕ} {old room : List �
 placed-more {out} {done} {len} {old} {room} next t p l h = record {
   member = λ i. h i ∙ ap (λ (b : Bool). b || eqb i t) (p .member i) ∙ sym (elem-snoc i t out);
   count = rw length-append (omega (arith, p .count));
-  are =
-      let m : len < length old = omega (arith, p .long) in
-      ap (λ (s : List ℕ). set s len t) (p .are ∙ ap (λ (s : List ℕ). out ++ s) (drop-cons old len 0 m))
-      ∙ set-at out (getD old len 0) (drop (suc len) old) t len (sym (p .count))
-      ∙ rw add-one (sym (append-snoc out t (drop (suc len) old)));
+  are = ap (λ (s : List ℕ). set s len t) (p .are) ∙ written-next out old len t (sym (p .count)) (omega (arith, p .long));
   long = length-set room len t ∙ p .long;
 }
 
@@ -65,14 +60,10 @@ module _ {n : ℕ} {done : TxSet} {len : ℕ} {room : List ℕ} (next : TxSet) (
     (new : mem done t ≡ false) (more : (i : ℕ) → mem next i ≡ (mem done i || eqb i t)) where
   pub standing-more : Standing n next (len + 1) (set room len t)
   standing-more = record {
-    below = λ i e. go i (mem done i) refl (sym (more i) ∙ e);
+    below = λ i e. ⊎-elim (h .below i) (λ z. omega (arith, eqb-true i t z)) (or-either (mem done i) (eqb i t) (sym (more i) ∙ e));
     count = omega (arith, h .count, size-more done next t new more);
     place = rw length-set (h .place);
   }
-    where
-      go : (i : ℕ) (b : Bool) → mem done i ≡ b → (b || eqb i t) ≡ true → i < n
-      go i true e _ = h .below i e
-      go i false _ e = omega (arith, eqb-true i t e)
 
   -- there is a place for it
   pub standing-room : len < length room

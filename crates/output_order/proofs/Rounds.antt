@@ -12,7 +12,7 @@ use Rattle.txset.specs.declared.TxSet.{TxSet}
 use Rattle.lists.specs.Below.{listFrom}
 use Rattle.lists.specs.Lists.{anyOf, elem, overwrite}
 use Rattle.txset.specs.Sets.{positions, isPosition, mem, members, setAt, memAt}
-use Rattle.lists.proofs.Bools.{clash, without-or}
+use Rattle.lists.proofs.Bools.{clash, without-or, cases}
 use Rattle.lists.proofs.Ranges.{list-below}
 use Rattle.lists.proofs.Below.{elem-below}
 use Rattle.txset.proofs.Walk.{size-empty}
@@ -151,17 +151,16 @@ module _ {fs : List ℤ} {ss ancestors order room₀ : List ℕ} {all : TxSet} {
       ap (best (sumAbove sumFees sumSizes tops))
       (only-list (covered outsides done) (mem left) positions 0
       ∙ list-below (λ j. mem left j && covered outsides done j) candidate r positions (p .known .chunks .few)
-      (λ i. ap (λ (b : Bool). b && covered outsides done i) (p .rest i) ∙ ready i (ltb i r) refl))
+      (λ i. ap (λ (b : Bool). b && covered outsides done i) (p .rest i) ∙ cases (ltb i r) (λ e. rw e (ready i (ltb-true i r e))) (λ e. rw e)))
       ∙ best-ext (sumAbove sumFees sumSizes tops) (chunkAbove fs ss (length fs) (chunksOf fs ss order)) (listFrom candidate r 0)
       (λ x y ex ey. above-same x y (elem-below candidate r x ex .0) (elem-below candidate r y ey .0))
       ∙ ap (λ (m : ℕ). best (chunkAbove fs ss (length fs) (chunksOf fs ss order)) (listFrom candidate m 0)) (p .known .chunks .count)
     where
-      ready : (i : ℕ) (b : Bool) → ltb i r ≡ b → ((b && not (elem i (p .gone))) && covered outsides done i) ≡ (b && candidate i)
-      ready i true e =
+      ready : (i : ℕ) → i < r → (not (elem i (p .gone)) && covered outsides done i) ≡ candidate i
+      ready i l =
           ap (λ (b : Bool). not (elem i (p .gone)) && b)
           (covered-ready (length fs) done (p .out) (p .placed .member) (memAt ancestors) (chunkAt (chunksOf fs ss order) i) (setAt outsides i)
-          (p .known .survey .outside i (ltb-true i r e)))
-      ready i false e = refl
+          (p .known .survey .outside i l))
 
   -- k is chosen
   module _ (k : ℕ) (is : chunkOf outsides sumFees sumSizes tops left done ≡ k ∷ []) where

@@ -3,14 +3,14 @@ use mathlib.Core.Path.{_≡_, refl, sym, ap, fun-ext, _∙_}
 use mathlib.Core.Bool.{Bool, true, false, not, _&&_, _||_, or-false, or-assoc, or-comm, and-true, and-comm, and-eq-true-iff}
 use mathlib.Core.List.{List, [], _∷_, _++_, append-nil, append-assoc, reverse, reverse-cons}
 use Prim.Native.Nat.{ℕ, _<_}
-use lib.Dec.{eqb}
 use lib.IntN.{ℤ}
-use borrow.Author.Tests.{not-true, eqb-true}
+use borrow.Author.Tests.{not-true}
+use mathlib.Core.Logic.{⊎-elim}
 use Rattle.feefrac.specs.declared.FeeFrac.{FeeFrac}
 use Rattle.feefrac.specs.Rate.{higher, negated, rateAt}
-use Rattle.lists.proofs.Bools.{cond-where, clash, or-left}
+use Rattle.lists.proofs.Bools.{cond-where, clash, or-left, is-false}
 use Rattle.lists.specs.Lists.{anyOf, elem, distinct}
-use Rattle.lists.proofs.Lists.{any-append, elem-append, elem-left, elem-head, elem-tail, After, any-none, none-any, distinct-apart, elem-right}
+use Rattle.lists.proofs.Lists.{any-append, elem-left, elem-head, elem-tail, After, any-none, none-any, distinct-apart, elem-right, in-append, in-cons}
 use Rattle.passes.specs.Pass.{Group, absorb, dependsOn, settle, alone, groupsAfter, flat, onePass, backPass, forwardPass}
 
 -- no element depends on one behind it; that one depends on itself is not asked
@@ -164,18 +164,18 @@ module _ (n : ℕ) (dep : ℕ → ℕ → Bool) (l : List ℕ) where
     unfolding ordered
     rest-ordered front [] e = refl
     rest-ordered front (x ∷ xs) e =
-        rw (none-any (dep x) xs (λ a m. free a m (dep x a) refl), rest-ordered (front ++ (x ∷ [])) xs (e ∙ sym (append-assoc front (x ∷ []) xs)))
+        rw (none-any (dep x) xs free, rest-ordered (front ++ (x ∷ [])) xs (e ∙ sym (append-assoc front (x ∷ []) xs)))
       where
         behind : (a : ℕ) → elem a xs ≡ true → elem a (front ++ (x ∷ [])) ≡ true → ⊥
         behind a m q =
             clash m (distinct-apart (front ++ (x ∷ [])) xs a (ap distinct (append-assoc front (x ∷ []) xs ∙ sym e) ∙ once) q)
 
-        free : (a : ℕ) → elem a xs ≡ true → (b : Bool) → dep x a ≡ b → dep x a ≡ false
-        free a m true t =
+        free : (a : ℕ) → elem a xs ≡ true → dep x a ≡ false
+        free a m =
+            is-false (dep x a) (λ t.
             let l = below a (ap (elem a) e ∙ elem-right a front (x ∷ xs) (elem-tail a x xs m)) in
             let n : a ≡ x → ⊥ = λ q. behind a m (elem-right a front (x ∷ []) (rw q (elem-head x []))) in
-            absurd (behind a m (elem-left a front (x ∷ []) (after front xs x a e l t n)))
-        free a m false t = t
+            absurd (behind a m (elem-left a front (x ∷ []) (after front xs x a e l t n))))
 
     pub after-ordered : ordered dep l ≡ true
     after-ordered = rest-ordered [] l refl
@@ -183,11 +183,8 @@ module _ (n : ℕ) (dep : ℕ → ℕ → Bool) (l : List ℕ) where
   -- a list of all the numbers below n: what is not behind an element is in front of it
   module _ (every : (i : ℕ) → i < n → elem i l ≡ true) (h : ordered dep l ≡ true) where
     pub ordered-after : After n dep l
-    unfolding elem anyOf
     ordered-after xs ys i a e b t q =
-        go (elem a xs) (eqb a i) refl (sym (elem-append a xs (i ∷ ys)) ∙ ap (elem a) (sym e) ∙ every a b)
-      where
-        go : (c d : Bool) → eqb a i ≡ d → (c || (d || elem a ys)) ≡ true → c ≡ true
-        go true d f m = refl
-        go false true f m = absurd (q (eqb-true a i f))
-        go false false f m = clash t (ordered-at dep xs ys i a (ap (ordered dep) (sym e) ∙ h) m)
+        ⊎-elim
+        (λ m. m)
+        (λ m. ⊎-elim (λ z. absurd (q z)) (λ z. clash t (ordered-at dep xs ys i a (ap (ordered dep) (sym e) ∙ h) z)) (in-cons a i ys m))
+        (in-append a xs (i ∷ ys) (ap (elem a) (sym e) ∙ every a b))

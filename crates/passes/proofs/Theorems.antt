@@ -1,7 +1,7 @@
 -- What a pass leaves as it is: each position comes as often as before. So there are as many, the members are the same, and none comes
 -- twice where none did. Then what the sums of its groups are. Assumes nothing.
 use mathlib.Core.Path.{_≡_, refl, sym, ap, ap₂, _∙_}
-use mathlib.Core.Bool.{Bool, true, false, cond, not, _&&_, _||_}
+use mathlib.Core.Bool.{Bool, true, false, cond, not, _&&_}
 use mathlib.Core.List.{List, [], _∷_, _++_, map, map-append, reverse, reverse-cons, List·Memᴰ}
 use Prim.Native.Nat.{ℕ, _+_, _*_, _^_, _≤_, _<_}
 use native.Mathlib.Omega.{arith}
@@ -11,7 +11,7 @@ use lib.ListN.{length, getD, length-append, length-reverse}
 use borrow.Author.Tests.{eq-eqb, eqb-true, not-true}
 use Rattle.feefrac.specs.declared.FeeFrac.{FeeFrac}
 use Rattle.feefrac.specs.Rate.{higher, negated, rateAt}
-use Rattle.lists.proofs.Bools.{cond-where, clash, false-together, and-left, and-right}
+use Rattle.lists.proofs.Bools.{cond-where, false-together, and-both, cases, or-left, or-right}
 use Rattle.feefrac.proofs.Exact.{abs-neg, held-near, spread, feeLimit, Within, within-at}
 use Rattle.feefrac.proofs.Exact.{far, far-append, Sums, fees-one, fees-both, sizes-one, sizes-both}
 use Rattle.lists.specs.Below.{bit}
@@ -64,29 +64,21 @@ occurs-append i (x ∷ xs) ys = omega (arith, occurs-append i xs ys)
 absent : (i : ℕ) (xs : List ℕ) → elem i xs ≡ false → occurs i xs ≡ 0
 unfolding elem anyOf occurs
 absent i [] e = refl
-absent i (x ∷ xs) e = go (eqb i x) e (absent i xs)
-  where
-    go : (b : Bool) → (b || elem i xs) ≡ false → (elem i xs ≡ false → occurs i xs ≡ 0) → bit b + occurs i xs ≡ 0
-    go true e h = clash refl e
-    go false e h = omega (arith, h e)
+absent i (x ∷ xs) e = rw (or-left (eqb i x) (elem i xs) e) (omega (arith, absent i xs (or-right (eqb i x) (elem i xs) e)))
 
 never : (i : ℕ) (xs : List ℕ) → occurs i xs ≡ 0 → elem i xs ≡ false
 unfolding elem anyOf occurs
 never i [] e = refl
-never i (x ∷ xs) e = go (eqb i x) e (never i xs)
-  where
-    go : (b : Bool) → bit b + occurs i xs ≡ 0 → (occurs i xs ≡ 0 → elem i xs ≡ false) → (b || elem i xs) ≡ false
-    go true e h = absurd (omega arith)
-    go false e h = h (omega arith)
+never i (x ∷ xs) e = cases (eqb i x) (λ d. absurd (omega (arith, ap bit d))) (λ d. rw d (never i xs (omega arith)))
 
 distinct-once : (xs : List ℕ) → distinct xs ≡ true → (i : ℕ) → occurs i xs ≤ 1
 unfolding distinct occurs
 distinct-once [] e i = omega arith
-distinct-once (x ∷ xs) e i = go (eqb i x) refl (distinct-once xs (and-right (not (elem x xs)) (distinct xs) e) i)
-  where
-    go : (b : Bool) → eqb i x ≡ b → occurs i xs ≤ 1 → bit b + occurs i xs ≤ 1
-    go true d h = omega (arith, ap (λ (j : ℕ). occurs j xs) (eqb-true i x d), absent x xs (not-true (elem x xs) (and-left (not (elem x xs)) (distinct xs) e)))
-    go false d h = omega arith
+distinct-once (x ∷ xs) e i =
+    let b = and-both (not (elem x xs)) (distinct xs) e in
+    cases (eqb i x)
+    (λ d. omega (arith, ap bit d, ap (λ (j : ℕ). occurs j xs) (eqb-true i x d), absent x xs (not-true (elem x xs) (b .0))))
+    (λ d. omega (arith, ap bit d, distinct-once xs (b .1) i))
 
 once-distinct : (xs : List ℕ) → ((i : ℕ) → occurs i xs ≤ 1) → distinct xs ≡ true
 unfolding distinct occurs

@@ -3,7 +3,7 @@ use Prim.Native.Nat.{ℕ, suc, _+_, _≤_, _<_}
 use native.Mathlib.Numerals.{add-one}
 use native.Mathlib.Omega.{arith}
 use mathlib.Core.Path.{_≡_, refl}
-use mathlib.Core.Bool.{Bool, true, false, not}
+use mathlib.Core.Bool.{true, false, not}
 use mathlib.Core.List.{List}
 use lib.ListN.{length, drop, getD, drop-of-length-le}
 use lib.Seq.{drop-cons}
@@ -14,16 +14,13 @@ use mir.Syntax.{w64}
 use mir.Val.{SFits, toZ, ofZ}
 use mir.ValLaws.{toZ-ofZ}
 use borrow.Author.Tests.{ltb-true, ltb-false, lt-ltb, le-ltb, lt-leb, le-leb}
+use Rattle.lists.proofs.Bools.{cases}
 use Rattle.refusals.specs.Refusals.{inRange, firstOutside, anyOutside}
 
 -- ---- the range of a fee
 
 leb-not : (a b : ℕ) → leb b a ≡ not (ltb a b)
-leb-not a b = go (ltb a b) refl
-  where
-    go : (t : Bool) → ltb a b ≡ t → leb b a ≡ not t
-    go true e = lt-leb b a (ltb-true a b e)
-    go false e = le-leb b a (ltb-false a b e)
+leb-not a b = cases (ltb a b) (λ e. rw e (lt-leb b a (ltb-true a b e))) (λ e. rw e (le-leb b a (ltb-false a b e)))
 
 leZ-not : (a b : ℤ) → leZ b a ≡ not (ltZ a b)
 leZ-not (pos a) (pos b) = leb-not a b

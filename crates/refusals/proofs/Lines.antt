@@ -7,7 +7,7 @@ use mathlib.Core.List.{List, [], _∷_}
 use lib.ListN.{drop, getD}
 use lib.Dec.{eqb}
 use borrow.Author.Tests.{eqb-true, not-true}
-use Rattle.lists.proofs.Bools.{clash, and-left, and-right}
+use Rattle.lists.proofs.Bools.{clash, and-left, and-right, cond-where}
 use Rattle.refusals.specs.Refusals.{Line, line, answerOf, replyOf, keptUnless}
 
 -- the n-th line; past the last, one that does not hold
@@ -94,8 +94,5 @@ module _ {R A : Type 0} {ls : List Line} (refused : ℕ → R) (done : R) (old n
 pub answered : {R : Type 0} (ls : List Line) (refused : ℕ → R) (done : R) (number : R → ℕ) → number done ≡ 0 → ((k : ℕ) → number (refused k) ≡ k)
     → number (replyOf refused ls done) ≡ answerOf ls
 unfolding replyOf
-answered ls refused done number z f = go (eqb (answerOf ls) 0) refl
-  where
-    go : (b : Bool) → eqb (answerOf ls) 0 ≡ b → number (cond b done (refused (answerOf ls))) ≡ answerOf ls
-    go true e = z ∙ sym (eqb-true (answerOf ls) 0 e)
-    go false e = f (answerOf ls)
+answered {R} ls refused done number z f =
+    cond-where (λ (r : R). number r ≡ answerOf ls) (eqb (answerOf ls) 0) (λ e. z ∙ sym (eqb-true (answerOf ls) 0 e)) (λ _. f (answerOf ls))

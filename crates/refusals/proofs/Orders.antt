@@ -52,34 +52,24 @@ module _ {n : ℕ} {order : List ℕ} {seen : TxSet} {i : ℕ} (s : Seen n order
   -- an entry that is no position
   pub seen-outside : n ≤ getD order i 0 → false ≡ (leb n positions && isOrder n order)
   unfolding isOrder allOf
-  seen-outside l = sym (rw (ne) (both (leb n positions) (eqb (length order) n) (distinct order)))
+  seen-outside l = sym (rw (ne, and-false (eqb (length order) n)) (and-false (leb n positions)))
     where
       ne : allOf (λ p. ltb p n) order ≡ false
       ne = ap (allOf (λ p. ltb p n)) (sym (take-append-drop i order) ∙ ap (λ (l : List ℕ). take i order ++ l) (drop-cons order i 0 (omega (arith, s .long))))
           ∙ all-append (λ p. ltb p n) (take i order) (getD order i 0 ∷ drop (suc i) order)
           ∙ ap₂ _&&_ (s .below) (ap (λ (b : Bool). b && allOf (λ p. ltb p n) (drop (suc i) order)) (le-ltb (getD order i 0) n l))
 
-      both : (a b c : Bool) → (a && (b && (false && c))) ≡ false
-      both true true c = refl
-      both true false c = refl
-      both false b c = refl
-
   -- an entry that was seen before
   pub seen-twice : getD order i 0 < n → mem seen (getD order i 0) ≡ true → false ≡ (leb n positions && isOrder n order)
   unfolding isOrder
-  seen-twice l e = sym (rw (ne) (both (leb n positions) (eqb (length order) n) (allOf (λ p. ltb p n) order)))
+  seen-twice l e =
+      sym (rw (ne, and-false (allOf (λ p. ltb p n) order), and-false (eqb (length order) n)) (and-false (leb n positions)))
     where
       ne : distinct order ≡ false
       ne = ap distinct (sym (take-append-drop (i + 1) order))
           ∙ distinct-front (take (i + 1) order) (drop (i + 1) order)
           (ap distinct next ∙ distinct-snoc (take i order) (getD order i 0)
           ∙ ap (λ (b : Bool). distinct (take i order) && not b) (sym (s .are (getD order i 0) l) ∙ e) ∙ and-false (distinct (take i order)))
-
-      both : (a b c : Bool) → (a && (b && (c && false))) ≡ false
-      both true true true = refl
-      both true true false = refl
-      both true false c = refl
-      both false b c = refl
 
 pub seen-all : {n : ℕ} {order : List ℕ} {seen : TxSet} {i : ℕ} → Seen n order seen i → n ≤ i → true ≡ (leb n positions && isOrder n order)
 unfolding isOrder

@@ -1,7 +1,7 @@
 -- What refusal 5, "a given order is not each position once", means, for readers of specs/Refusals.antt: a list passes `isOrder n` exactly
 -- where it has n entries and every position below n is among them. Assumes nothing.
 use mathlib.Core.Path.{_≡_, refl, ap₂}
-use mathlib.Core.Bool.{Bool, true, false, not, _&&_}
+use mathlib.Core.Bool.{Bool, true, not, _&&_}
 use mathlib.Core.Logic.{⊎-elim}
 use mathlib.Core.List.{List, [], _∷_}
 use Prim.Native.Nat.{ℕ, _+_, _≤_, _<_}
@@ -10,7 +10,7 @@ use lib.Dec.{eqb, ltb}
 use lib.ListN.{length}
 use borrow.Author.Tests.{lt-ltb, ltb-true, eq-eqb}
 use Rattle.lists.specs.Lists.{anyOf, allOf, elem, distinct}
-use Rattle.lists.proofs.Bools.{clash, and-left, and-right, and-both}
+use Rattle.lists.proofs.Bools.{clash, and-left, and-right, and-both, cases}
 use Rattle.lists.proofs.Numbers.{lt-or-ge}
 use Rattle.lists.proofs.Lists.{elem-head, elem-tail, in-cons}
 use Rattle.lists.proofs.Once.{all-there, missing, missing-again, missing-cons, missing-least, none-missing, once-missing}
@@ -51,17 +51,16 @@ module _ (n : ℕ) (l : List ℕ) (h : isOrder n l ≡ true) where
 tight : (n : ℕ) (l : List ℕ) → length l + missing n l ≤ n → (allOf (λ p. ltb p n) l ≡ true) × (distinct l ≡ true)
 unfolding allOf distinct
 tight n [] h = (refl, refl)
-tight n (x ∷ xs) h = ⊎-elim (λ l. go l (elem x xs) refl (tight n xs)) (λ l. slack (λ m. absurd (omega arith))) (lt-or-ge x n)
+tight n (x ∷ xs) h =
+    ⊎-elim
+    (λ l. cases (elem x xs) (λ e. slack (λ _. e)) (λ e.
+    let t = tight n xs (omega (arith, missing-cons n xs x l e)) in
+    (ap₂ _&&_ (lt-ltb x n l) (t .0), ap₂ (λ (a b : Bool). not a && b) e (t .1))))
+    (λ l. slack (λ m. absurd (omega arith)))
+    (lt-or-ge x n)
   where
     slack : (x < n → elem x xs ≡ true) → (allOf (λ p. ltb p n) (x ∷ xs) ≡ true) × (distinct (x ∷ xs) ≡ true)
     slack e = absurd (omega (arith, missing-again n xs x e, missing-least n xs))
-
-    go : x < n → (b : Bool) → elem x xs ≡ b → (length xs + missing n xs ≤ n → (allOf (λ p. ltb p n) xs ≡ true) × (distinct xs ≡ true))
-        → (allOf (λ p. ltb p n) (x ∷ xs) ≡ true) × (distinct (x ∷ xs) ≡ true)
-    go l true e ih = slack (λ _. e)
-    go l false e ih =
-        let t = ih (omega (arith, missing-cons n xs x l e)) in
-        (ap₂ _&&_ (lt-ltb x n l) (t .0), ap₂ (λ (a b : Bool). not a && b) e (t .1))
 
 -- a list of n entries that has every position below n is taken for an order: nothing else is asked of it
 pub every-order : (n : ℕ) (l : List ℕ) → length l ≡ n → ((i : ℕ) → i < n → elem i l ≡ true) → isOrder n l ≡ true

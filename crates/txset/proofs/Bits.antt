@@ -13,7 +13,7 @@ use lib.Count.{ones, ones-step, trailingZeros, under}
 use borrow.Author.Tests.{ne-eqb, eq-eqb, lt-ltb, le-ltb, not-false}
 use Rattle.lists.specs.Below.{bit, anyFrom, countFrom, firstFrom}
 use Rattle.txset.specs.Sets.{has}
-use Rattle.lists.proofs.Bools.{clash}
+use Rattle.lists.proofs.Bools.{clash, cases}
 use Rattle.lists.proofs.Below.{count-shift, count-ext, first-shift, first-ext, none-at, First, first-is, first-has, first-below}
 use Rattle.lists.proofs.Numbers.{lt-or-ge}
 
@@ -148,11 +148,11 @@ has-ext (suc k) a b ha hb h =
 
 -- it is 0 exactly if it has no digit
 pub zero-any : (k a : ℕ) → a < 2 ^ k → eqb a 0 ≡ not (anyFrom (has a) k 0)
-zero-any k a h = go (anyFrom (has a) k 0) refl
-  where
-    go : (b : Bool) → anyFrom (has a) k 0 ≡ b → eqb a 0 ≡ not b
-    go true e = ne-eqb a 0 (λ z. clash (first-has (has a) k 0 e) (ap (λ (n : ℕ). has n (firstFrom (has a) k 0)) z ∙ has-nil (firstFrom (has a) k 0)))
-    go false e = eq-eqb a 0 (has-ext k a 0 h (pow-pos k) (λ i l. none-at (has a) k 0 e i (omega arith) (omega arith) ∙ sym (has-nil i)))
+zero-any k a h =
+    let p = firstFrom (has a) k 0 in
+    cases (anyFrom (has a) k 0)
+    (λ e. rw e (ne-eqb a 0 (λ z. clash (first-has (has a) k 0 e) (ap (λ (n : ℕ). has n p) z ∙ has-nil p))))
+    (λ e. rw e (eq-eqb a 0 (has-ext k a 0 h (pow-pos k) (λ i l. none-at (has a) k 0 e i (omega arith) (omega arith) ∙ sym (has-nil i)))))
 
 -- ---- counts of digits
 

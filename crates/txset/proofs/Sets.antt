@@ -13,7 +13,7 @@ use Rattle.txset.specs.declared.TxSet.{TxSet}
 use Rattle.lists.specs.Lists.{elem}
 use Rattle.lists.specs.Below.{anyFrom}
 use Rattle.txset.specs.Sets.{words, positions, isPosition, mem, members, size, isEmpty, isSubset, overlap, setAt, putAt}
-use Rattle.lists.proofs.Bools.{clash, but-not, implies, asked}
+use Rattle.lists.proofs.Bools.{clash, but-not, implies, asked, cases}
 use Rattle.lists.proofs.Below.{all-any, any-ext, none-at, at-none, all-at, at-all, list-ext, count-list, elem-in, elem-out, ascending, list-ascending, count-without}
 use Rattle.lists.proofs.Numbers.{lt-or-ge}
 use Rattle.lists.proofs.Ranges.{count-below, count-le}
@@ -35,11 +35,7 @@ mem-position s i h = ⊎-elim (λ l. l) (λ l. clash h (mem-past s i l)) (lt-or-
 
 -- so what is asked of a member need not ask whether it is a position
 pub mem-without : (s : TxSet) (i : ℕ) (b : Bool) → (mem s i && not (isPosition i && b)) ≡ (mem s i && not b)
-mem-without s i b = go (mem s i) refl
-  where
-    go : (m : Bool) → mem s i ≡ m → (m && not (isPosition i && b)) ≡ (m && not b)
-    go true e = ap (λ (p : Bool). not (p && b)) (lt-ltb i positions (mem-position s i e))
-    go false e = refl
+mem-without s i b = cases (mem s i) (λ e. rw (e, lt-ltb i positions (mem-position s i e))) (λ e. rw e)
 
 -- what holds of positions alone need not ask either
 pub position-and : (i : ℕ) (b : Bool) → (b ≡ true → i < positions) → (isPosition i && b) ≡ b
@@ -93,11 +89,7 @@ disjoint-mem s t h i m =
 
 pub mem-disjoint : (s t : TxSet) → ((i : ℕ) → mem s i ≡ true → mem t i ≡ false) → overlap s t ≡ false
 unfolding overlap
-mem-disjoint s t h = at-none (λ i. mem s i && mem t i) positions 0 (λ i a b. go (mem s i) (mem t i) (h i))
-  where
-    go : (b c : Bool) → (b ≡ true → c ≡ false) → (b && c) ≡ false
-    go true c e = e refl
-    go false c e = refl
+mem-disjoint s t h = at-none (λ i. mem s i && mem t i) positions 0 (λ i a b. cases (mem s i) (λ e. rw e (h i e)) (λ e. rw e))
 
 -- ---- the list of the members
 
@@ -131,11 +123,13 @@ size-most s n h below =
 -- one member more
 pub size-more : (s t : TxSet) (x : ℕ) → mem s x ≡ false → ((i : ℕ) → mem t i ≡ (mem s i || eqb i x)) → size t ≡ suc (size s)
 size-more s t x e h =
-    size-without t s x (h x ∙ ap (λ (b : Bool). mem s x || b) (eq-eqb x x refl) ∙ or-true (mem s x)) (λ i. back i (eqb i x) refl)
+    size-without t s x (h x ∙ ap (λ (b : Bool). mem s x || b) (eq-eqb x x refl) ∙ or-true (mem s x)) back
   where
-    back : (i : ℕ) (b : Bool) → eqb i x ≡ b → mem s i ≡ (mem t i && not b)
-    back i true q = ap (mem s) (eqb-true i x q) ∙ e ∙ sym (and-false (mem t i))
-    back i false q = sym (and-true (mem t i) ∙ h i ∙ ap (λ (b : Bool). mem s i || b) q ∙ or-false (mem s i))
+    back : (i : ℕ) → mem s i ≡ (mem t i && not (eqb i x))
+    back i =
+        cases (eqb i x)
+        (λ q. rw (q, and-false (mem t i)) (ap (mem s) (eqb-true i x q) ∙ e))
+        (λ q. rw (q, and-true (mem t i)) (sym (h i ∙ ap (λ (b : Bool). mem s i || b) q ∙ or-false (mem s i))))
 
 -- one that is within a list has no more members than that has elements
 pub size-in : (s : TxSet) (c : List ℕ) → ((i : ℕ) → mem s i ≡ true → elem i c ≡ true) → size s ≤ length c

@@ -13,7 +13,7 @@ use lib.Count.{ones, trailingZeros, trailing-of-zero}
 use borrow.Author.Tests.{ne-eqb, lt-ltb, le-ltb, ltb-true, ltb-false, eqb-true}
 use Rattle.lists.specs.Below.{anyFrom, countFrom, firstFrom, listFrom}
 use Rattle.txset.specs.Sets.{has, hasIn}
-use Rattle.lists.proofs.Bools.{not-or, cond-not}
+use Rattle.lists.proofs.Bools.{not-or, cond-not, cases}
 use Rattle.lists.proofs.Numbers.{lt-or-ge, ltb-same, eqb-same}
 use Rattle.lists.proofs.Below.{some, headOr, some-append, some-map, head-append, head-map}
 use Rattle.lists.proofs.Below.{list-none, list-ext, list-split, list-shift, count-list, any-list, first-list}
@@ -203,11 +203,8 @@ firstIn (w ∷ ws) = cond (eqb w 0) (64 + firstIn ws) (trailingZeros 64 w)
 
 -- the last word needs no test
 pub first-last : (w : ℕ) → firstIn (w ∷ []) ≡ trailingZeros 64 w
-first-last w = go (eqb w 0) refl
-  where
-    go : (b : Bool) → eqb w 0 ≡ b → cond b 64 (trailingZeros 64 w) ≡ trailingZeros 64 w
-    go true e = sym (ap (trailingZeros 64) (eqb-true w 0 e) ∙ trailing-of-zero 64)
-    go false e = refl
+first-last w =
+    cases (eqb w 0) (λ e. rw e (sym (ap (trailingZeros 64) (eqb-true w 0 e) ∙ trailing-of-zero 64))) (λ e. rw e)
 
 pub first-words : (ws : List ℕ) → Fits ws → firstFrom (hasIn ws) (64 * length ws) 0 ≡ firstIn ws
 first-words [] h = first-list (hasIn []) 0 0 ∙ ap (headOr 0) (list-none (hasIn []) 0)

@@ -1,11 +1,13 @@
 -- A product of two words, by digits of 32 bits, and the order of two such products. Assumes nothing.
-use mathlib.Core.Path.{_≡_, refl, sym, ap, _∙_}
-use mathlib.Core.Bool.{Bool, true, false}
+use mathlib.Core.Path.{_≡_, sym, ap, _∙_}
+use mathlib.Core.Bool.{true, false}
 use Prim.Native.Nat.{ℕ, _+_, _*_, _/_, _%_, _≤_, _<_}
 use native.Mathlib.Nat.{add-mul, mul-comm, mul-right-comm, mul-le-mul, div-add-mod'}
 use native.Mathlib.Omega.{arith}
 use lib.Dec.{ltb}
-use borrow.Author.Tests.{lt-ltb, le-ltb, ltb-true, ltb-false}
+use borrow.Author.Tests.{lt-ltb, le-ltb}
+use mathlib.Core.Logic.{⊎-elim}
+use Rattle.lists.proofs.Numbers.{lt-or-ge, ltb-same}
 use Rattle.wide.specs.declared.Wide.{Wide}
 use Rattle.wide.specs.Words.{value, Carry}
 
@@ -13,19 +15,11 @@ use Rattle.wide.specs.Words.{value, Carry}
 
 module _ (s a r : ℕ) (k : Carry s a r) where
   pub carry-small : r ≤ 1
-  carry-small = go (ltb s a) refl
-    where
-      go : (t : Bool) → ltb s a ≡ t → r ≤ 1
-      go true f = let one : r ≡ 1 = k .0 (ltb-true s a f) in omega arith
-      go false f = let none : r ≡ 0 = k .1 (ltb-false s a f) in omega arith
+  carry-small = ⊎-elim (λ l. omega (arith, k .0 l)) (λ l. omega (arith, k .1 l)) (lt-or-ge s a)
 
   pub carried : (b : ℕ) → a < 18446744073709551616 → b < 18446744073709551616 → s ≡ (a + b) % 18446744073709551616
       → 18446744073709551616 * r + s ≡ a + b
-  carried b ha hb e = go (ltb s a) refl
-    where
-      go : (t : Bool) → ltb s a ≡ t → 18446744073709551616 * r + s ≡ a + b
-      go true f = let one : r ≡ 1 = k .0 (ltb-true s a f) in omega (arith, ltb-true s a f)
-      go false f = let none : r ≡ 0 = k .1 (ltb-false s a f) in omega (arith, ltb-false s a f)
+  carried b ha hb e = ⊎-elim (λ l. omega (arith, k .0 l)) (λ l. omega (arith, k .1 l)) (lt-or-ge s a)
 
 -- ---- the digits of a product
 
@@ -59,8 +53,4 @@ module _ (a b : Wide) (ha : a .lo < 18446744073709551616) (hb : b .lo < 18446744
   high-above h = le-ltb (value a) (value b) (omega arith)
 
   pub high-same : b .hi ≤ a .hi → a .hi ≤ b .hi → ltb (a .lo) (b .lo) ≡ ltb (value a) (value b)
-  high-same h k = go (ltb (a .lo) (b .lo)) refl
-    where
-      go : (t : Bool) → ltb (a .lo) (b .lo) ≡ t → t ≡ ltb (value a) (value b)
-      go true e = sym (lt-ltb (value a) (value b) (omega (arith, ltb-true (a .lo) (b .lo) e)))
-      go false e = sym (le-ltb (value a) (value b) (omega (arith, ltb-false (a .lo) (b .lo) e)))
+  high-same h k = ltb-same (a .lo) (b .lo) (value a) (value b) (λ l. omega arith) (λ l. omega arith)
