@@ -1,5 +1,5 @@
-// Module 8 of document 01: add. The newcomer takes the lowest free slot and is linked with its parents in the pool, both ways; a chain or
-// a cluster that would pass a limit is refused before anything is written.
+// Module 8 of document 01: add. The newcomer takes the lowest free slot and is linked with its parents in the pool, both ways; a
+// cluster that would pass a limit is refused before anything is written.
 ghost use mathlib.Core.Path.{_≡_};
 ghost use Prim.Native.Nat.{_+_, _^_, _<_};
 ghost use Rattle.txset.specs.Sets.{hasIn};

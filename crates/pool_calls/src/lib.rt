@@ -1,4 +1,5 @@
-// Module 8 of document 01: the calls on a pool but for add. The pool is a table that the caller lends; every call tests it whole first (12),
+// Module 8 of document 01: the calls on a pool but for add. The pool is a table that the caller lends; every call but make tests it whole
+// first (12),
 // answers, and leaves in it just what the rules say, so that a miner's template never rests on a table that something else wrote into. A
 // refusal leaves it word for word as it was.
 ghost use mathlib.Core.Path.{_≡_};

@@ -1,6 +1,6 @@
 // Module 8 of document 01 as definitions (specs/Module8.antt, specs/Calls.antt), with the look-ups that its calls share: where a txid stands,
-// the lowest free slot, how many entries there are, and which slots a list of parents names. A look-up reads every slot at most once:
-// the test of refusal 12, which goes before it in every call, reads more.
+// the lowest free slot, how many entries there are, and which slots a list of parents names. A look-up reads every slot at most once,
+// less than the test of refusal 12 before it; a list of parents takes a look-up for each.
 ghost use mathlib.Core.Path.{_≡_};
 ghost use mathlib.Core.Bool.{cond, _||_};
 ghost use lib.ListN.{length};

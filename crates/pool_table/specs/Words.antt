@@ -1,7 +1,8 @@
--- The words of a lent table, and what they mean as a pool: a header, and a row for each slot. Nothing is stored twice, and a free slot is
--- all zero words. The table of the pool that a table of a legal length means is that table, and the pool of a pool's table is that pool, where
--- each of its sets has 16 words, as in every pool of module 8 (proofs/Theorems.antt). So "all lent memory stays" and "follow from the
--- input alone" are equations over `Pool`. A later field is one more offset here. Assumes nothing.
+-- The words of a lent table, and what they mean as a pool: a header, and a row for each slot. Only what document 01 asks for is stored
+-- twice, links at both ends and the total, and a free slot is all zero words. The table of the pool that a table of a legal length means
+-- is that table, and the pool of a pool's table is that pool, where each of its sets has 16 words, as in every pool of module 8
+-- (proofs/Theorems.antt). So "all lent memory stays" and "follow from the input alone" are equations over `Pool`. A later field is one
+-- more offset here. Assumes nothing.
 use Prim.Native.Nat.{ℕ, zero, suc, _+_, _-_, _*_, _/_}
 use mathlib.Core.Bool.{Bool, _&&_}
 use mathlib.Core.List.{List, [], _∷_, _++_}
