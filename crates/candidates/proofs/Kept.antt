@@ -127,24 +127,24 @@ module _ (n : ℕ) (anc : ℕ → ℕ → Bool) where
 
 -- what the scan gives has the least key
 module _ (above : ℕ → ℕ → Bool) (key : ℕ → ℕ) (by : (x y : ℕ) → above x y ≡ ltb (key x) (key y)) where
-  scan-least : (held : ℕ) (xs : List ℕ) → (x : ℕ) → elem x (held ∷ xs) ≡ true → key (scan above held xs) ≤ key x
+  scan-least : (found : ℕ) (xs : List ℕ) → (x : ℕ) → elem x (found ∷ xs) ≡ true → key (scan above found xs) ≤ key x
   unfolding scan
-  scan-least held [] x e = ⊎-elim (λ z. rw z (omega arith)) (λ m. clash m none) (in-cons x held [] e)
+  scan-least found [] x e = ⊎-elim (λ z. rw z (omega arith)) (λ m. clash m none) (in-cons x found [] e)
     where
       none : elem x [] ≡ false
       none = unfold elem anyOf in refl
-  scan-least held (y ∷ ys) x e =
-      let h = scan-least (cond (above y held) y held) ys in
-      let l = low (above y held) (sym (by y held)) in
-      let top = h (cond (above y held) y held) (elem-head (cond (above y held) y held) ys) in
+  scan-least found (y ∷ ys) x e =
+      let h = scan-least (cond (above y found) y found) ys in
+      let l = low (above y found) (sym (by y found)) in
+      let top = h (cond (above y found) y found) (elem-head (cond (above y found) y found) ys) in
       ⊎-elim
       (λ z. rw z (omega (arith, l .0)))
-      (λ m. ⊎-elim (λ z. rw z (omega (arith, l .1))) (λ n. h x (elem-tail x (cond (above y held) y held) ys n)) (in-cons x y ys m))
-      (in-cons x held (y ∷ ys) e)
+      (λ m. ⊎-elim (λ z. rw z (omega (arith, l .1))) (λ n. h x (elem-tail x (cond (above y found) y found) ys n)) (in-cons x y ys m))
+      (in-cons x found (y ∷ ys) e)
     where
-      low : (b : Bool) → ltb (key y) (key held) ≡ b → (key (cond b y held) ≤ key held) × (key (cond b y held) ≤ key y)
-      low true e = let l : key y < key held = ltb-true (key y) (key held) e in (omega arith, omega arith)
-      low false e = let l : key held ≤ key y = ltb-false (key y) (key held) e in (omega arith, omega arith)
+      low : (b : Bool) → ltb (key y) (key found) ≡ b → (key (cond b y found) ≤ key found) × (key (cond b y found) ≤ key y)
+      low true e = let l : key y < key found = ltb-true (key y) (key found) e in (omega arith, omega arith)
+      low false e = let l : key found ≤ key y = ltb-false (key y) (key found) e in (omega arith, omega arith)
 
   pub best-least : (xs : List ℕ) (t : ℕ) → best above xs ≡ t ∷ [] → (x : ℕ) → elem x xs ≡ true → key t ≤ key x
   unfolding best elem anyOf

@@ -69,8 +69,8 @@ pub record Taking
     (ss ws : List ℕ)
     (n : ℕ)
     (room order : List ℕ)
-    (feesums : List ℤ)
-    (sizesums : List ℕ)
+    (sum-fees : List ℤ)
+    (sum-sizes : List ℕ)
     (todo : TxSet)
     (len round : ℕ) : Type 0 where
   pub out : List ℕ
@@ -79,9 +79,9 @@ pub record Taking
   pub count : len ≡ length out
   pub sum : len + size todo ≤ n
   pub left : (i : ℕ) → mem todo i ≡ (ltb i n && not (elem i out))
-  pub sums : (i : ℕ) → mem todo i ≡ true → rateAt feesums sizesums i ≡ ancestorSum fs ss n (memAt ws) out i
-  pub fees : length feesums ≡ positions
-  pub sizes : length sizesums ≡ positions
+  pub sums : (i : ℕ) → mem todo i ≡ true → rateAt sum-fees sum-sizes i ≡ ancestorSum fs ss n (memAt ws) out i
+  pub fees : length sum-fees ≡ positions
+  pub sizes : length sum-sizes ≡ positions
   pub are : order ≡ out ++ drop len room
   pub long : length order ≡ length room
 
@@ -94,11 +94,11 @@ module _
     (full : (i : ℕ) → mem all i ≡ (isPosition i && ltb i n))
     (room : List ℕ) where
   -- at first nothing is out
-  pub take-start : (feesums : List ℤ) (sizesums : List ℕ) → length feesums ≡ positions → length sizesums ≡ positions
-      → ((i : ℕ) → i < n → rateAt feesums sizesums i ≡ total fs ss (listFrom (ancestorIn ws all i) positions 0))
-      → Taking fs ss ws n room room feesums sizesums all 0 0
+  pub take-start : (sum-fees : List ℤ) (sum-sizes : List ℕ) → length sum-fees ≡ positions → length sum-sizes ≡ positions
+      → ((i : ℕ) → i < n → rateAt sum-fees sum-sizes i ≡ total fs ss (listFrom (ancestorIn ws all i) positions 0))
+      → Taking fs ss ws n room room sum-fees sum-sizes all 0 0
   unfolding ancestorSum givenBack elem anyOf
-  take-start feesums sizesums a b e = record {
+  take-start sum-fees sum-sizes a b e = record {
     out = [];
     goes = ap (λ (k : ℕ). rounds fs ss n (memAt ws) k []) (omega arith);
     upto = omega arith;
@@ -114,11 +114,11 @@ module _
 
   module _
       (order : List ℕ)
-      (feesums : List ℤ)
-      (sizesums : List ℕ)
+      (sum-fees : List ℤ)
+      (sum-sizes : List ℕ)
       (todo : TxSet)
       (len round : ℕ)
-      (h : Taking fs ss ws n room order feesums sizesums todo len round) where
+      (h : Taking fs ss ws n room order sum-fees sum-sizes todo len round) where
     -- what is left is what remains
     todo-members : members todo ≡ remaining n (h .out)
     unfolding members remaining
@@ -133,20 +133,20 @@ module _
     take-empty e = sym (rounds-none fs ss n (memAt ws) (n - round) (h .out) (sym todo-members ∙ walk-done todo e)) ∙ h .goes
 
     -- the candidate of the definition is that of the code
-    candidate-is : candidate fs ss n (memAt ws) (h .out) ≡ best (ranksAbove (rateAt feesums sizesums)) (members todo)
+    candidate-is : candidate fs ss n (memAt ws) (h .out) ≡ best (ranksAbove (rateAt sum-fees sum-sizes)) (members todo)
     unfolding candidate ranksAbove
     candidate-is =
         ap (best (ranksAbove (ancestorSum fs ss n (memAt ws) (h .out)))) (sym todo-members)
         ∙ best-ext _ _ (members todo) (λ x y p q. ap₂ (λ (a b : FeeFrac). isGreater (rankOrder a b)) (sym (sum-of x p)) (sym (sum-of y q)))
       where
-        sum-of : (x : ℕ) → elem x (members todo) ≡ true → rateAt feesums sizesums x ≡ ancestorSum fs ss n (memAt ws) (h .out) x
+        sum-of : (x : ℕ) → elem x (members todo) ≡ true → rateAt sum-fees sum-sizes x ≡ ancestorSum fs ss n (memAt ws) (h .out) x
         sum-of x p = h .sums x (sym (members-elem todo x) ∙ p)
 
     -- t is taken: `at` is its set, `some` its ancestors that are left, and `rest` what is left without them
     module _
         (t : ℕ)
         (at some rest : TxSet)
-        (best-is : best (ranksAbove (rateAt feesums sizesums)) (members todo) ≡ t ∷ [])
+        (best-is : best (ranksAbove (rateAt sum-fees sum-sizes)) (members todo) ≡ t ∷ [])
         (at-is : at ≡ setAt ws t)
         (shared : (i : ℕ) → mem some i ≡ (mem at i && mem todo i))
         (without : (i : ℕ) → mem rest i ≡ (mem todo i && not (mem some i))) where
@@ -232,11 +232,11 @@ module _
 
         -- one round
         pub take-turn : (below : List ℕ) → Turned ws n below
-            → (feesums' : List ℤ) (sizesums' : List ℕ) → length feesums' ≡ positions → length sizesums' ≡ positions → round < n
-            → GaveBack fs ss below rest (take (end - len) (drop len last)) (rateAt feesums sizesums) (rateAt feesums' sizesums')
-            → Taking fs ss ws n room last feesums' sizesums' rest end (round + 1)
+            → (sum-fees' : List ℤ) (sum-sizes' : List ℕ) → length sum-fees' ≡ positions → length sum-sizes' ≡ positions → round < n
+            → GaveBack fs ss below rest (take (end - len) (drop len last)) (rateAt sum-fees sum-sizes) (rateAt sum-fees' sum-sizes')
+            → Taking fs ss ws n room last sum-fees' sum-sizes' rest end (round + 1)
         unfolding ancestorSum rounds new
-        take-turn below turned feesums' sizesums' a b l back =
+        take-turn below turned sum-fees' sum-sizes' a b l back =
             let many : length new ≡ size some = app .many in
             let next : n - round ≡ suc (n - (round + 1)) = omega arith in
             record {
@@ -252,7 +252,7 @@ module _
                   without i ∙ ap₂ (λ (b c : Bool). b && not c) (h .left i) (sym (app .holds i)) ∙ without-append (ltb i n) i (h .out) new;
               sums = λ i m.
                   back i m
-                  ∙ back-ext fs ss (λ t. mem (setAt below t) i) (memAt ws i) (below-is i m) (rateAt feesums sizesums i) (take (end - len) (drop len last))
+                  ∙ back-ext fs ss (λ t. mem (setAt below t) i) (memAt ws i) (below-is i m) (rateAt sum-fees sum-sizes i) (take (end - len) (drop len last))
                   ∙ ap₂ (givenBack fs ss (memAt ws i)) (h .sums i (was-left i m)) gone-is
                   ∙ sym (back-append fs ss (memAt ws i) (total fs ss (listFrom (memAt ws i) n 0)) (h .out) new);
               fees = a;
@@ -288,8 +288,8 @@ unfolding fits
 narrow-unfit fs room l = rw (lt-leb (length fs) (length room) l) (and-false (leb (length fs) positions))
 
 -- else all that was taken
-pub fit : {fs : List ℤ} {ss ws room order : List ℕ} {feesums : List ℤ} {sizesums : List ℕ} {todo : TxSet} {len round : ℕ}
-    → (h : Taking fs ss ws (length fs) room order feesums sizesums todo len round) → length fs ≤ positions → length fs ≤ length room
+pub fit : {fs : List ℤ} {ss ws room order : List ℕ} {sum-fees : List ℤ} {sum-sizes : List ℕ} {todo : TxSet} {len round : ℕ}
+    → (h : Taking fs ss ws (length fs) room order sum-fees sum-sizes todo len round) → length fs ≤ positions → length fs ≤ length room
     → h .out ≡ rounds fs ss (length fs) (memAt ws) (length fs) [] → (len ≡ written fs ss (memAt ws) room) × (order ≡ filled fs ss (memAt ws) room)
 unfolding written filled fits ancestorOrder
 fit {fs} {room = room} {len = len} h a b e =

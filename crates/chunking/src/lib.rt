@@ -50,20 +50,26 @@ pub fn order_lengths(fees: &[i64], sizes: &[u64], order: &[usize], lens: &mut [u
     if lens.len() < n {
         return 0;
     }
-    let mut in_fees = [0i64; POSITIONS];
-    let mut in_sizes = [0u64; POSITIONS];
-    gather(fees, sizes, order, &mut in_fees, &mut in_sizes);
-    write_chunks(&in_fees[..n], &in_sizes[..n], lens)
+    let mut listed_fees = [0i64; POSITIONS];
+    let mut listed_sizes = [0u64; POSITIONS];
+    gather(fees, sizes, order, &mut listed_fees, &mut listed_sizes);
+    write_chunks(&listed_fees[..n], &listed_sizes[..n], lens)
 }
 
 // The fees and sizes of the members in the order.
-fn gather(fees: &[i64], sizes: &[u64], order: &[usize], in_fees: &mut [i64], in_sizes: &mut [u64])
-    ensures { λ _. ⌜ Gathered (now (fees .entry)) (now (sizes .entry)) (now (order .entry)) (now («in_fees» .exit)) (now («in_sizes» .exit)) ⌝ }
+fn gather(
+    fees: &[i64],
+    sizes: &[u64],
+    order: &[usize],
+    listed_fees: &mut [i64],
+    listed_sizes: &mut [u64],
+)
+    ensures { λ _. ⌜ Gathered (now (fees .entry)) (now (sizes .entry)) (now (order .entry)) (now («listed_fees» .exit)) (now («listed_sizes» .exit)) ⌝ }
 {
     let mut k: usize = 0;
     while k < order.len() {
         let member = order[k];
-        FeeFrac::at(fees, sizes, member).put(in_fees, in_sizes, k);
+        FeeFrac::at(fees, sizes, member).put(listed_fees, listed_sizes, k);
         k += 1;
     }
 }

@@ -6,10 +6,10 @@ use mathlib.Core.List.{List, [], _∷_}
 use Rattle.feefrac.specs.declared.FeeFrac.{FeeFrac}
 use Rattle.feefrac.specs.Rate.{rankOrder, isGreater}
 
--- what is held at the end of a scan; `above x y` says that x is strictly above y
+-- what a scan has found at its end, the document's "held one"; `above x y` says that x is strictly above y
 unfoldable pub scan : (ℕ → ℕ → Bool) → ℕ → List ℕ → ℕ
-scan above held [] = held
-scan above held (x ∷ xs) = scan above (cond (above x held) x held) xs
+scan above found [] = found
+scan above found (x ∷ xs) = scan above (cond (above x found) x found) xs
 
 -- the best of some candidates, as a list of one; of none, none
 unfoldable pub best : (ℕ → ℕ → Bool) → List ℕ → List ℕ

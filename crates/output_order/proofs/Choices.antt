@@ -1,4 +1,4 @@
--- A scan over the members of a set that are ready, with nothing held until the first of them. Assumes nothing.
+-- A scan over the members of a set that are ready, with nothing found until the first of them. Assumes nothing.
 use mathlib.Core.Path.{_≡_, refl, sym, ap, _∙_}
 use mathlib.Core.Bool.{Bool, true, false, cond, not, _&&_}
 use mathlib.Core.List.{List, [], _∷_, _++_}
@@ -15,7 +15,7 @@ use Rattle.lists.proofs.Below.{elem-below}
 use Rattle.txset.proofs.Walk.{walk-step, walk-less, walk-done, lowest-position}
 use Rattle.feeset.specs.Scan.{scan, best}
 use Rattle.feeset.proofs.Scan.{best-elem}
-use Rattle.output_order.specs.Rounds.{heldOf}
+use Rattle.output_order.specs.Rounds.{foundOf}
 
 -- those of a range that are ready
 pub only-list : (ready f : ℕ → Bool) (k i : ℕ) → only ready (listFrom f k i) ≡ listFrom (λ j. f j && ready j) k i
@@ -36,30 +36,30 @@ best-mem above ready s t e =
     ap (elem t) (sym (only-list ready (mem s) positions 0)) ∙ best-elem above (only ready (listFrom (mem s) positions 0)) t e in
     and-left (mem s t) (ready t) (elem-below f positions t is .1)
 
--- nothing is held, or one
-pub held-none : (held : ℕ) → held ≡ positions → heldOf held ≡ []
-held-none held e = ap (λ (b : Bool). cond b [] (held ∷ [])) (eq-eqb held positions e)
+-- nothing is found, or one
+pub found-none : (found : ℕ) → found ≡ positions → foundOf found ≡ []
+found-none found e = ap (λ (b : Bool). cond b [] (found ∷ [])) (eq-eqb found positions e)
 
-pub held-one : (held : ℕ) → (held ≡ positions → ⊥) → heldOf held ≡ held ∷ []
-held-one held n = ap (λ (b : Bool). cond b [] (held ∷ [])) (ne-eqb held positions n)
+pub found-one : (found : ℕ) → (found ≡ positions → ⊥) → foundOf found ≡ found ∷ []
+found-one found n = ap (λ (b : Bool). cond b [] (found ∷ [])) (ne-eqb found positions n)
 
--- a scan of those of `all` that are ready on its way: what is held, and the set that is left
-pub record Held (above : ℕ → ℕ → Bool) (ready : ℕ → Bool) (all : List ℕ) (held : ℕ) (rest : TxSet) : Type 0 where
-  pub small : held ≤ positions
-  pub gives : best above (heldOf held ++ only ready (members rest)) ≡ best above (only ready all)
+-- a scan of those of `all` that are ready on its way: what is found, and the set that is left
+pub record Found (above : ℕ → ℕ → Bool) (ready : ℕ → Bool) (all : List ℕ) (found : ℕ) (rest : TxSet) : Type 0 where
+  pub small : found ≤ positions
+  pub gives : best above (foundOf found ++ only ready (members rest)) ≡ best above (only ready all)
 
-pub held-start : (above : ℕ → ℕ → Bool) (ready : ℕ → Bool) (held : ℕ) (s : TxSet) → held ≡ positions → Held above ready (members s) held s
-held-start above ready held s e =
-    record { small = omega arith; gives = ap (λ (l : List ℕ). best above (l ++ only ready (members s))) (held-none held e) }
+pub found-start : (above : ℕ → ℕ → Bool) (ready : ℕ → Bool) (found : ℕ) (s : TxSet) → found ≡ positions → Found above ready (members s) found s
+found-start above ready found s e =
+    record { small = omega arith; gives = ap (λ (l : List ℕ). best above (l ++ only ready (members s))) (found-none found e) }
 
--- nothing is left: what is held is the best
-pub held-stop : {above : ℕ → ℕ → Bool} {ready : ℕ → Bool} {all : List ℕ} {held : ℕ} {s : TxSet}
-    → Held above ready all held s → isEmpty s ≡ true → heldOf held ≡ best above (only ready all)
+-- nothing is left: what is found is the best
+pub found-stop : {above : ℕ → ℕ → Bool} {ready : ℕ → Bool} {all : List ℕ} {found : ℕ} {s : TxSet}
+    → Found above ready all found s → isEmpty s ≡ true → foundOf found ≡ best above (only ready all)
 unfolding best scan only
-held-stop {above = above} {ready = ready} {held = held} {s = s} h e =
-    alone (eqb held positions) ∙ sym (ap (λ (l : List ℕ). best above (heldOf held ++ only ready l)) (walk-done s e)) ∙ h .gives
+found-stop {above = above} {ready = ready} {found = found} {s = s} h e =
+    alone (eqb found positions) ∙ sym (ap (λ (l : List ℕ). best above (foundOf found ++ only ready l)) (walk-done s e)) ∙ h .gives
   where
-    alone : (b : Bool) → cond b [] (held ∷ []) ≡ best above (cond b [] (held ∷ []) ++ [])
+    alone : (b : Bool) → cond b [] (found ∷ []) ≡ best above (cond b [] (found ∷ []) ++ [])
     alone true = refl
     alone false = refl
 
@@ -80,45 +80,45 @@ module _
     {above : ℕ → ℕ → Bool}
     {ready : ℕ → Bool}
     {all : List ℕ}
-    {held : ℕ}
+    {found : ℕ}
     {s t : TxSet}
     {i : ℕ}
-    (h : Held above ready all held s)
+    (h : Found above ready all found s)
     (w : Next s t i) where
-  step : (b : Bool) → ready i ≡ b → best above (heldOf held ++ keepIf b i (only ready (members t))) ≡ best above (only ready all)
+  step : (b : Bool) → ready i ≡ b → best above (foundOf found ++ keepIf b i (only ready (members t))) ≡ best above (only ready all)
   unfolding only
   step b e =
-      ap (λ (c : Bool). best above (heldOf held ++ keepIf c i (only ready (members t)))) (sym e)
-      ∙ ap (λ (x : ℕ). best above (heldOf held ++ only ready (x ∷ members t))) (w .first)
-      ∙ ap (λ (l : List ℕ). best above (heldOf held ++ only ready l)) (sym (walk-step s t (w .rest) (w .left)))
+      ap (λ (c : Bool). best above (foundOf found ++ keepIf c i (only ready (members t)))) (sym e)
+      ∙ ap (λ (x : ℕ). best above (foundOf found ++ only ready (x ∷ members t))) (w .first)
+      ∙ ap (λ (l : List ℕ). best above (foundOf found ++ only ready l)) (sym (walk-step s t (w .rest) (w .left)))
       ∙ h .gives
 
   -- one that is not ready is passed over
-  pub held-skip : ready i ≡ false → Held above ready all held t
-  held-skip e = record { small = h .small; gives = step false e }
+  pub found-skip : ready i ≡ false → Found above ready all found t
+  found-skip e = record { small = h .small; gives = step false e }
 
-  -- the first that is ready is held
-  pub held-first : ready i ≡ true → held ≡ positions → Held above ready all i t
-  held-first e z = record {
+  -- the first that is ready is found
+  pub found-first : ready i ≡ true → found ≡ positions → Found above ready all i t
+  found-first e z = record {
     small = omega (arith, next-position w);
     gives =
-        ap (λ (l : List ℕ). best above (l ++ only ready (members t))) (held-one i (λ q. omega (arith, next-position w)))
-        ∙ sym (ap (λ (l : List ℕ). best above (l ++ i ∷ only ready (members t))) (held-none held z))
+        ap (λ (l : List ℕ). best above (l ++ only ready (members t))) (found-one i (λ q. omega (arith, next-position w)))
+        ∙ sym (ap (λ (l : List ℕ). best above (l ++ i ∷ only ready (members t))) (found-none found z))
         ∙ step true e;
   }
 
-  turn : (b : Bool) → above i held ≡ b → ready i ≡ true → (held ≡ positions → ⊥) → (cond b i held ≡ positions → ⊥)
-      → best above (heldOf (cond b i held) ++ only ready (members t)) ≡ best above (only ready all)
+  turn : (b : Bool) → above i found ≡ b → ready i ≡ true → (found ≡ positions → ⊥) → (cond b i found ≡ positions → ⊥)
+      → best above (foundOf (cond b i found) ++ only ready (members t)) ≡ best above (only ready all)
   unfolding best scan
   turn b a e n m =
-      ap (λ (l : List ℕ). best above (l ++ only ready (members t))) (held-one (cond b i held) m)
-      ∙ ap (λ (c : Bool). best above (cond c i held ∷ only ready (members t))) (sym a)
-      ∙ sym (ap (λ (l : List ℕ). best above (l ++ i ∷ only ready (members t))) (held-one held n))
+      ap (λ (l : List ℕ). best above (l ++ only ready (members t))) (found-one (cond b i found) m)
+      ∙ ap (λ (c : Bool). best above (cond c i found ∷ only ready (members t))) (sym a)
+      ∙ sym (ap (λ (l : List ℕ). best above (l ++ i ∷ only ready (members t))) (found-one found n))
       ∙ step true e
 
-  -- what is held yields to one that is above it, and to no other
-  pub held-yields : ready i ≡ true → (held ≡ positions → ⊥) → above i held ≡ true → Held above ready all i t
-  held-yields e n a = record { small = omega (arith, next-position w); gives = turn true a e n (λ q. omega (arith, next-position w)) }
+  -- what is found yields to one that is above it, and to no other
+  pub found-yields : ready i ≡ true → (found ≡ positions → ⊥) → above i found ≡ true → Found above ready all i t
+  found-yields e n a = record { small = omega (arith, next-position w); gives = turn true a e n (λ q. omega (arith, next-position w)) }
 
-  pub held-keeps : ready i ≡ true → (held ≡ positions → ⊥) → above i held ≡ false → Held above ready all held t
-  held-keeps e n a = record { small = h .small; gives = turn false a e n n }
+  pub found-keeps : ready i ≡ true → (found ≡ positions → ⊥) → above i found ≡ false → Found above ready all found t
+  found-keeps e n a = record { small = h .small; gives = turn false a e n n }

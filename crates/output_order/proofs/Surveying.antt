@@ -1,4 +1,4 @@
--- The loops of `survey` and `all_ancestors` as records over plain values, with a law for each thing that the code does: it starts, takes a
+-- The loops of `find_outsides`, `sum_chunks` and `all_ancestors` as records over plain values, with a law for each thing that the code does: it starts, takes a
 -- turn, is done. Assumes nothing.
 use Prim.Native.Nat.{ℕ, zero, suc, _+_, _≤_, _<_}
 use native.Mathlib.Omega.{arith}
@@ -14,14 +14,14 @@ use Rattle.feefrac.specs.Rate.{rateAt}
 use Rattle.txset.specs.declared.TxSet.{TxSet}
 use Rattle.lists.specs.Below.{keepIf, anyFrom, listFrom}
 use Rattle.lists.specs.Lists.{anyOf, elem}
-use Rattle.txset.specs.Sets.{positions, mem, members, isEmpty, lowestOf, setAt, putAt, memAt, setWords}
+use Rattle.txset.specs.Sets.{positions, mem, members, isEmpty, lowestOf, setAt, putAt, memAt}
 use Rattle.lists.proofs.Ranges.{list-below}
 use Rattle.txset.proofs.Sets.{length-put}
 use Rattle.txset.proofs.Walk.{walk-step, walk-done}
 use Rattle.feeset.specs.Total.{total}
 use Rattle.chunking.specs.Orders.{chunkAt}
 use Rattle.output_order.specs.Output.{chunkRate}
-use Rattle.output_order.specs.Steps.{All, Cut, Surveyed, needed}
+use Rattle.output_order.specs.Steps.{All, Cut, Outsides, Summed, Surveyed, needed}
 use Rattle.output_order.proofs.Cutting.{sets-more, rates-more}
 
 -- ---- all_ancestors
@@ -48,56 +48,57 @@ module _ {ancestors : List ℕ} {all found s : TxSet} (h : Finding ancestors all
   unfolding anyOf
   find-done e a = sym (or-false (mem found a)) ∙ rw (walk-done s e) at (h .gives a)
 
--- ---- survey
+-- ---- what is written of each set, one after the other
 
--- whether a is one of n members, outside s, and an ancestor of one of s
-abbrev outsideOf : List ℕ → ℕ → TxSet → ℕ → Bool
-outsideOf ancestors n s a = (above ancestors (members s) a && ltb a n) && not (mem s a)
+-- nothing is written yet
+pub outsides-start : {ancestors : List ℕ} {all : TxSet} {sets outsides : List ℕ} → Outsides ancestors all sets outsides 0
+outsides-start = record { are = below-none _ }
 
--- the outside and the sum of each of the first k sets are written
-pub record Surveying (fs : List ℤ) (ss ancestors : List ℕ) (n : ℕ) (sets outsides : List ℕ) (sumFees : List ℤ) (sumSizes : List ℕ) (k : ℕ) : Type 0 where
-  pub outsides-long : length outsides ≡ setWords
-  pub fees-long : length sumFees ≡ positions
-  pub sizes-long : length sumSizes ≡ positions
-  pub outside : (j : ℕ) → j < k → (a : ℕ) → mem (setAt outsides j) a ≡ outsideOf ancestors n (setAt sets j) a
-  pub rate : (j : ℕ) → j < k → rateAt sumFees sumSizes j ≡ total fs ss (members (setAt sets j))
+pub summed-start : {fs : List ℤ} {ss sets : List ℕ} {sumFees : List ℤ} {sumSizes : List ℕ} → Summed fs ss sets sumFees sumSizes 0
+summed-start = record { are = below-none _ }
 
-pub survey-start : {fs : List ℤ} {ss ancestors : List ℕ} {n : ℕ} {sets outsides : List ℕ} {sumFees : List ℤ} {sumSizes : List ℕ}
-    → (length outsides ≡ setWords) × ((length sumFees ≡ positions) × (length sumSizes ≡ positions))
-    → Surveying fs ss ancestors n sets outsides sumFees sumSizes 0
-survey-start h =
-    record { outsides-long = h .0; fees-long = h .1 .0; sizes-long = h .1 .1; outside = below-none _; rate = below-none _ }
+-- all are, as many as were asked for
+pub outsides-done : {ancestors : List ℕ} {all : TxSet} {sets outsides : List ℕ} {k r : ℕ} → Outsides ancestors all sets outsides k → r ≤ k
+    → Outsides ancestors all sets outsides r
+outsides-done h l = record { are = λ j b. h .are j (omega arith) }
 
-module _
-    {fs : List ℤ}
-    {ss ancestors : List ℕ}
-    {n : ℕ}
-    {sets outsides : List ℕ}
-    {sumFees : List ℤ}
-    {sumSizes : List ℕ}
-    {k : ℕ}
-    (h : Surveying fs ss ancestors n sets outsides sumFees sumSizes k) where
-  -- the outside of a chunk's set, s, and its sum are put
-  pub survey-turn : k < positions → (all s found shared outside : TxSet) (r : FeeFrac) (newo : List ℕ) (newf : List ℤ) (news : List ℕ) → All n all
-      → s ≡ setAt sets k → ((a : ℕ) → mem found a ≡ above ancestors (members s) a) → ((a : ℕ) → mem shared a ≡ (mem found a && mem all a))
-      → ((a : ℕ) → mem outside a ≡ (mem shared a && not (mem s a))) → newo ≡ putAt outsides k outside
-      → r ≡ total fs ss (members s) → newf ≡ set sumFees k (r .fee) → news ≡ set sumSizes k (r .size)
-      → Surveying fs ss ancestors n sets newo newf news (k + 1)
-  survey-turn few all s found shared outside r newo newf news a e f i o p t q v =
-      rw (p, q, v)
-      (record {
-        outsides-long = length-put outsides k outside ∙ h .outsides-long;
-        fees-long = length-set sumFees k (r .fee) ∙ h .fees-long;
-        sizes-long = length-set sumSizes k (r .size) ∙ h .sizes-long;
-        outside = sets-more (λ j x. (a : ℕ) → mem x a ≡ outsideOf ancestors n (setAt sets j) a) outsides k outside (omega (arith, h .outsides-long))
-            (h .outside)
+pub summed-done : {fs : List ℤ} {ss sets : List ℕ} {sumFees : List ℤ} {sumSizes : List ℕ} {k r : ℕ} → Summed fs ss sets sumFees sumSizes k → r ≤ k
+    → Summed fs ss sets sumFees sumSizes r
+summed-done h l = record { are = λ j b. h .are j (omega arith) }
+
+-- the outside of a set, s, is put
+pub outsides-turn : {ancestors : List ℕ} {all : TxSet} {sets outsides : List ℕ} {k : ℕ} → Outsides ancestors all sets outsides k → k < length outsides
+    → (s found shared outside : TxSet) {new : List ℕ} → s ≡ setAt sets k
+    → ((a : ℕ) → mem found a ≡ above ancestors (members s) a) → ((a : ℕ) → mem shared a ≡ (mem found a && mem all a))
+    → ((a : ℕ) → mem outside a ≡ (mem shared a && not (mem s a))) → new ≡ putAt outsides k outside
+    → (length new ≡ length outsides) × Outsides ancestors all sets new (k + 1)
+outsides-turn {ancestors} {all} {sets} {outsides} {k} h l s found shared outside e f i o p =
+    rw p (
+      length-put outsides k outside,
+      record {
+        are = sets-more (λ j x. (a : ℕ) → mem x a ≡ ((above ancestors (members (setAt sets j)) a && mem all a) && not (mem (setAt sets j) a))) outsides k outside l
+            (h .are)
             (λ x. o x
-            ∙ ap (λ (b : Bool). b && not (mem s x)) (i x ∙ ap₂ _&&_ (f x) (a .are x))
-            ∙ ap (λ (y : TxSet). outsideOf ancestors n y x) e);
-        rate = rates-more (λ j x. x ≡ total fs ss (members (setAt sets j))) sumFees sumSizes k r (omega (arith, h .fees-long)) (omega (arith, h .sizes-long))
-            (h .rate)
-            (t ∙ ap (λ (y : TxSet). total fs ss (members y)) e);
-      })
+            ∙ ap (λ (b : Bool). b && not (mem s x)) (i x ∙ ap (λ (b : Bool). b && mem all x) (f x))
+            ∙ ap (λ (y : TxSet). (above ancestors (members y) x && mem all x) && not (mem y x)) e);
+      },
+    )
+
+-- its sum is put
+pub summed-turn : {fs : List ℤ} {ss sets : List ℕ} {sumFees : List ℤ} {sumSizes : List ℕ} {k : ℕ} → Summed fs ss sets sumFees sumSizes k
+    → k < length sumFees → k < length sumSizes → {s : TxSet} {r : FeeFrac} {newf : List ℤ} {news : List ℕ} → s ≡ setAt sets k
+    → r ≡ total fs ss (members s) → newf ≡ set sumFees k (r .fee) → news ≡ set sumSizes k (r .size)
+    → (length newf ≡ length sumFees) × ((length news ≡ length sumSizes) × Summed fs ss sets newf news (k + 1))
+summed-turn {fs} {ss} {sets} {sumFees} {sumSizes} {k} h l m {r = r} e t q v =
+    rw (q, v) (
+      length-set sumFees k (r .fee),
+      (
+        length-set sumSizes k (r .size),
+        record {
+          are = rates-more (λ j x. x ≡ total fs ss (members (setAt sets j))) sumFees sumSizes k r l m (h .are) (t ∙ ap (λ (y : TxSet). total fs ss (members y)) e);
+        },
+      ),
+    )
 
 any-keep : (f : ℕ → Bool) (b : Bool) (i : ℕ) (l : List ℕ) → anyOf f (keepIf b i l) ≡ (b && f i || anyOf f l)
 unfolding anyOf
@@ -122,18 +123,20 @@ pub cut-members : {n : ℕ} {cs : List (List ℕ)} {sets tops : List ℕ} {r : �
 unfolding members
 cut-members {n} {cs} {sets} c few k l = list-below (mem (setAt sets k)) (λ i. elem i (chunkAt cs k)) n positions few (c .sets k l)
 
--- all are written: each set's outside and sum are its chunk's
-pub survey-done : {fs : List ℤ} {ss ancestors : List ℕ} {n : ℕ} {sets outsides : List ℕ} {sumFees : List ℤ} {sumSizes : List ℕ} {k r : ℕ}
-    → Surveying fs ss ancestors n sets outsides sumFees sumSizes k → r ≤ k → n ≤ positions
-    → (cs : List (List ℕ)) (tops : List ℕ) → Cut n cs sets tops r → Surveyed fs ss n (memAt ancestors) cs outsides sumFees sumSizes r
+-- so where the sets hold the chunks, each set's outside and sum are its chunk's
+pub surveyed : {fs : List ℤ} {ss ancestors : List ℕ} {n : ℕ} {all : TxSet} {sets outsides : List ℕ} {sumFees : List ℤ} {sumSizes : List ℕ} {r : ℕ}
+    (cs : List (List ℕ)) {tops : List ℕ} → All n all → Cut n cs sets tops r → Outsides ancestors all sets outsides r → Summed fs ss sets sumFees sumSizes r
+    → Surveyed fs ss n (memAt ancestors) cs outsides sumFees sumSizes r
 unfolding needed chunkRate
-survey-done {fs} {ss} {ancestors} {n} {sets} {k = k} h l few cs tops c =
+surveyed {fs} {ss} {ancestors} {n} {all} {sets} cs w c outsides sums =
     record {
       outside = λ j b a.
-          h .outside j (omega arith) a
-          ∙ ap₂ (λ (x y : Bool). (x && ltb a n) && not y)
-          (ap (λ (ts : List ℕ). above ancestors ts a) (cut-members c few j b) ∙ any-both (λ t. mem (setAt ancestors t) a) (λ i. elem i (chunkAt cs j)) n 0)
+          outsides .are j b a
+          ∙ ap₂ (λ (x y : Bool). (x && mem all a) && not y)
+          (ap (λ (ts : List ℕ). above ancestors ts a) (cut-members c (w .few) j b)
+          ∙ any-both (λ t. mem (setAt ancestors t) a) (λ i. elem i (chunkAt cs j)) n 0)
           (c .sets j b a)
+          ∙ ap (λ (x : Bool). (anyFrom (λ t. elem t (chunkAt cs j) && mem (setAt ancestors t) a) n 0 && x) && not (ltb a n && elem a (chunkAt cs j))) (w .are a)
           ∙ outer (anyFrom (λ t. elem t (chunkAt cs j) && mem (setAt ancestors t) a) n 0) (ltb a n) (elem a (chunkAt cs j));
-      rate = λ j b. h .rate j (omega arith) ∙ ap (total fs ss) (cut-members c few j b);
+      rate = λ j b. sums .are j b ∙ ap (total fs ss) (cut-members c (w .few) j b);
     }

@@ -14,6 +14,7 @@ use Rattle.txset.specs.Sets.{positions, mem, members, size, isSubset, setAt}
 use Rattle.feeset.specs.Scan.{best, ranksAbove}
 use Rattle.output_order.specs.declared.Choice.{Choice}
 use Rattle.output_order.specs.declared.Choice.the-variants.{Of, Nothing}
+use Rattle.output_order.specs.declared.Out.{Out}
 use Rattle.output_order.specs.Output.{inside}
 
 -- a choice as a list of one or none
@@ -21,9 +22,9 @@ abbrev pub chosen : Choice → List ℕ
 chosen (Of k) = k ∷ []
 chosen Nothing = []
 
--- what a scan holds as a list of one or none: 64 is nothing
-abbrev pub heldOf : ℕ → List ℕ
-heldOf held = cond (eqb held positions) [] (held ∷ [])
+-- what a scan has found as a list of one or none: no position is nothing
+abbrev pub foundOf : ℕ → List ℕ
+foundOf found = cond (eqb found positions) [] (found ∷ [])
 
 -- chunk j goes before chunk k, by their sums and their highest positions
 unfoldable pub sumAbove : List ℤ → List ℕ → List ℕ → ℕ → ℕ → Bool
@@ -65,3 +66,7 @@ pub record Put (fs : List ℤ) (ss : List ℕ) (n : ℕ) (anc : ℕ → ℕ → 
   pub stands : Standing n done' len' room'
   pub puts : (c out old : List ℕ) → ((i : ℕ) → mem chunk i ≡ (ltb i n && elem i c)) → Placed out done len old room
       → Placed (inside fs ss n anc c (length c) out) done' len' old room'
+
+-- the same of what is out before and after
+abbrev pub PutOut : List ℤ → List ℕ → (ℕ → ℕ → Bool) → TxSet → Out → List ℕ → Out → List ℕ → Type 0
+PutOut fs ss anc chunk before room after room' = Put fs ss (length fs) anc chunk (before .done) (before .len) room (after .done) (after .len) room'

@@ -9,8 +9,9 @@ use lib.IntN.{ℤ}
 use Rattle.feefrac.specs.Rate.{rateAt}
 use Rattle.txset.specs.declared.TxSet.{TxSet}
 use Rattle.lists.specs.Below.{anyFrom}
-use Rattle.lists.specs.Lists.{elem, highestOf}
-use Rattle.txset.specs.Sets.{positions, mem, setAt}
+use Rattle.lists.specs.Lists.{anyOf, elem, highestOf}
+use Rattle.txset.specs.Sets.{positions, mem, members, setAt}
+use Rattle.feeset.specs.Total.{total}
 use Rattle.chunking.specs.Orders.{chunkAt}
 use Rattle.output_order.specs.Output.{chunkRate}
 
@@ -30,7 +31,15 @@ pub record Cut (n : ℕ) (cs : List (List ℕ)) (ws ts : List ℕ) (r : ℕ) : T
 unfoldable pub needed : ℕ → (ℕ → ℕ → Bool) → List ℕ → ℕ → Bool
 needed n anc c a = anyFrom (λ t. elem t c && anc t a) n 0
 
--- of each chunk the ancestors outside it, and its feerate sum
+-- of the first r sets: the ancestors among `all` that its members have outside it, and its feerate sum
+pub record Outsides (ancestors : List ℕ) (all : TxSet) (sets outsides : List ℕ) (r : ℕ) : Type 0 where
+  pub are : (k : ℕ) → k < r → (a : ℕ)
+      → mem (setAt outsides k) a ≡ ((anyOf (λ t. mem (setAt ancestors t) a) (members (setAt sets k)) && mem all a) && not (mem (setAt sets k) a))
+
+pub record Summed (fs : List ℤ) (ss sets : List ℕ) (sumFees : List ℤ) (sumSizes : List ℕ) (r : ℕ) : Type 0 where
+  pub are : (k : ℕ) → k < r → rateAt sumFees sumSizes k ≡ total fs ss (members (setAt sets k))
+
+-- the same of the chunks that the sets hold
 pub record Surveyed (fs : List ℤ) (ss : List ℕ) (n : ℕ) (anc : ℕ → ℕ → Bool) (cs : List (List ℕ)) (outsides : List ℕ) (sumFees : List ℤ) (sumSizes : List ℕ) (r : ℕ) : Type 0 where
   pub outside : (k : ℕ) → k < r → (a : ℕ) → mem (setAt outsides k) a ≡ (ltb a n && (needed n anc (chunkAt cs k) a && not (elem a (chunkAt cs k))))
   pub rate : (k : ℕ) → k < r → rateAt sumFees sumSizes k ≡ chunkRate fs ss n (chunkAt cs k)

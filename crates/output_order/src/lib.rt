@@ -8,8 +8,8 @@ ghost use Rattle.lists.specs.Lists.{anyOf, elem, highestOf};
 ghost use Rattle.txset.specs.Sets.{positions, setWords, isPosition, mem, members, setAt, memAt};
 ghost use Rattle.chunking.specs.Orders.{chunksOf};
 ghost use Rattle.output_order.specs.Output.{written, filled};
-ghost use Rattle.output_order.specs.Steps.{All, Cut, Surveyed};
-ghost use Rattle.output_order.specs.Rounds.{chosen, heldOf, sumAbove, chunkOf, memberOf, Standing, Put};
+ghost use Rattle.output_order.specs.Steps.{All, Cut, Outsides, Summed};
+ghost use Rattle.output_order.specs.Rounds.{chosen, foundOf, sumAbove, chunkOf, memberOf, Standing, PutOut};
 use chunking::order_lengths;
 use feefrac::FeeFrac;
 use feefrac::compare_sizes;
@@ -59,42 +59,26 @@ pub fn output_order(
     let mut tops = [0usize; POSITIONS];
     let count = cut(fees, sizes, all, order, &mut sets, &mut tops);
     let mut outsides = [0u64; SET_WORDS];
+    find_outsides(ancestors, all, &sets, count, &mut outsides);
     let mut sum_fees = [0i64; POSITIONS];
     let mut sum_sizes = [0u64; POSITIONS];
-    survey(
-        fees,
-        sizes,
-        ancestors,
-        all,
-        &sets,
-        count,
-        &mut outsides,
-        &mut sum_fees,
-        &mut sum_sizes,
-    );
+    sum_chunks(fees, sizes, &sets, count, &mut sum_fees, &mut sum_sizes);
     let mut left = TxSet::full(count);
-    let mut done = TxSet::empty();
-    let mut len: usize = 0;
+    let mut out = Out {
+        done: TxSet::empty(),
+        len: 0,
+    };
     let mut round: usize = 0;
     while round < count {
+        let done = out.done;
         let Choice::Of(k) = next_chunk(&outsides, &sum_fees, &sum_sizes, &tops, left, done) else {
-            return len;
+            return out.len;
         };
         left = left.remove(k);
-        let now = put_out(
-            fees,
-            sizes,
-            ancestors,
-            all,
-            TxSet::at(&sets, k),
-            Out { done, len },
-            room,
-        );
-        done = now.done;
-        len = now.len;
+        out = put_out(fees, sizes, ancestors, all, TxSet::at(&sets, k), out, room);
         round += 1;
     }
-    len
+    out.len
 }
 
 // The members of each chunk of the order as a set, and its highest position; answers how many chunks there are.
@@ -156,22 +140,10 @@ fn highest(list: &[usize]) -> usize
     top
 }
 
-// Of each chunk the ancestors that its members have outside it, and its feerate sum.
-fn survey(
-    fees: &[i64],
-    sizes: &[u64],
-    ancestors: &[u64],
-    all: TxSet,
-    sets: &[u64],
-    count: usize,
-    outsides: &mut [u64],
-    sum_fees: &mut [i64],
-    sum_sizes: &mut [u64],
-)
-    requires { ⌜ All (length (now fees)) all ⌝ }
-    requires { ⌜ count ≤ positions ⌝ }
-    requires { ⌜ (length (now outsides) ≡ setWords) × ((length (now «sum_fees») ≡ positions) × (length (now «sum_sizes») ≡ positions)) ⌝ }
-    ensures { λ _. ⌜ ((cs : List (List ℕ)) (tops : List ℕ) → Cut (length (now (fees .entry))) cs (now (sets .entry)) tops count → Surveyed (now (fees .entry)) (now (sizes .entry)) (length (now (fees .entry))) (memAt (now (ancestors .entry))) cs (now (outsides .exit)) (now («sum_fees» .exit)) (now («sum_sizes» .exit)) count) ⌝ }
+// Of each of the first `count` sets the ancestors that its members have outside it.
+fn find_outsides(ancestors: &[u64], all: TxSet, sets: &[u64], count: usize, outsides: &mut [u64])
+    requires { ⌜ (count ≤ positions) × (length (now outsides) ≡ setWords) ⌝ }
+    ensures { λ _. ⌜ Outsides (now (ancestors .entry)) all (now (sets .entry)) (now (outsides .exit)) count ⌝ }
 {
     let mut k: usize = 0;
     while k < count {
@@ -180,7 +152,25 @@ fn survey(
             .intersection(all)
             .subtract(set)
             .put(outsides, k);
-        set_feerate(fees, sizes, set).put(sum_fees, sum_sizes, k);
+        k += 1;
+    }
+}
+
+// Of each of the first `count` sets the feerate sum.
+fn sum_chunks(
+    fees: &[i64],
+    sizes: &[u64],
+    sets: &[u64],
+    count: usize,
+    sum_fees: &mut [i64],
+    sum_sizes: &mut [u64],
+)
+    requires { ⌜ (count ≤ positions) × ((length (now «sum_fees») ≡ positions) × (length (now «sum_sizes») ≡ positions)) ⌝ }
+    ensures { λ _. ⌜ Summed (now (fees .entry)) (now (sizes .entry)) (now (sets .entry)) (now («sum_fees» .exit)) (now («sum_sizes» .exit)) count ⌝ }
+{
+    let mut k: usize = 0;
+    while k < count {
+        set_feerate(fees, sizes, TxSet::at(sets, k)).put(sum_fees, sum_sizes, k);
         k += 1;
     }
 }
@@ -211,7 +201,7 @@ fn next_chunk(
     requires { ⌜ length (now tops) ≡ positions ⌝ }
     ensures { λ r. ⌜ chosen r ≡ chunkOf (now (outsides .entry)) (now («sum_fees» .entry)) (now («sum_sizes» .entry)) (now (tops .entry)) left done ⌝ }
 {
-    let mut held: usize = POSITIONS;
+    let mut found: usize = POSITIONS;
     let mut rest = left;
     while !rest.is_empty() {
         let k = rest.lowest();
@@ -219,15 +209,15 @@ fn next_chunk(
         if !TxSet::at(outsides, k).is_subset(done) {
             continue;
         }
-        if held == POSITIONS {
-            held = k;
+        if found == POSITIONS {
+            found = k;
             continue;
         }
-        if chunk_above(sum_fees, sum_sizes, tops, k, held) {
-            held = k;
+        if chunk_above(sum_fees, sum_sizes, tops, k, found) {
+            found = k;
         }
     }
-    held_choice(held)
+    found_choice(found)
 }
 
 // Whether chunk j is to go out before chunk k, both being ready.
@@ -253,7 +243,7 @@ fn put_out(
     requires { ⌜ All (length (now fees)) all ⌝ }
     requires { ⌜ ((i : ℕ) → mem chunk i ≡ true → i < length (now fees)) ⌝ }
     requires { ⌜ Standing (length (now fees)) (before .done) (before .len) (now room) ⌝ }
-    ensures { λ r. ⌜ Put (now (fees .entry)) (now (sizes .entry)) (length (now (fees .entry))) (memAt (now (ancestors .entry))) chunk (before .done) (before .len) (now (room .entry)) (r .done) (r .len) (now (room .exit)) ⌝ }
+    ensures { λ r. ⌜ PutOut (now (fees .entry)) (now (sizes .entry)) (memAt (now (ancestors .entry))) chunk before (now (room .entry)) r (now (room .exit)) ⌝ }
 {
     let mut done = before.done;
     let mut len = before.len;
@@ -281,7 +271,7 @@ fn next_member(
 ) -> Choice
     ensures { λ r. ⌜ chosen r ≡ memberOf (now (fees .entry)) (now (sizes .entry)) (now (ancestors .entry)) all left done ⌝ }
 {
-    let mut held: usize = POSITIONS;
+    let mut found: usize = POSITIONS;
     let mut rest = left;
     while !rest.is_empty() {
         let t = rest.lowest();
@@ -292,23 +282,23 @@ fn next_member(
             .is_subset(done) {
             continue;
         }
-        if held == POSITIONS {
-            held = t;
+        if found == POSITIONS {
+            found = t;
             continue;
         }
-        if is_greater(FeeFrac::at(fees, sizes, t).rank(FeeFrac::at(fees, sizes, held))) {
-            held = t;
+        if is_greater(FeeFrac::at(fees, sizes, t).rank(FeeFrac::at(fees, sizes, found))) {
+            found = t;
         }
     }
-    held_choice(held)
+    found_choice(found)
 }
 
-// Nothing is held where the scan still has POSITIONS.
-fn held_choice(held: usize) -> Choice
-    ensures { λ r. ⌜ chosen r ≡ heldOf held ⌝ }
+// Nothing is found where the scan still has POSITIONS.
+fn found_choice(found: usize) -> Choice
+    ensures { λ r. ⌜ chosen r ≡ foundOf found ⌝ }
 {
-    if held == POSITIONS {
+    if found == POSITIONS {
         return Choice::Nothing;
     }
-    Choice::Of(held)
+    Choice::Of(found)
 }

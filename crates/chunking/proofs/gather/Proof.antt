@@ -6,10 +6,10 @@ use Rattle.chunking.proofs.gather.Statement.{statement}
 use Rattle.chunking.proofs.gather.Tie as tie
 
 abbrev Inv-loop : tie.InvT-loop
-Inv-loop fees sizes order in-fees₀ in-sizes₀ k₀ in-fees in-sizes k = Gathering fees sizes order in-fees₀ in-sizes₀ in-fees in-sizes k
+Inv-loop fees sizes order listed-fees₀ listed-sizes₀ k₀ listed-fees listed-sizes k = Gathering fees sizes order listed-fees₀ listed-sizes₀ listed-fees listed-sizes k
 
 abbrev μ-loop : tie.MeasureT-loop
-μ-loop fees sizes order in-fees₀ in-sizes₀ k₀ in-fees in-sizes k = length order - k
+μ-loop fees sizes order listed-fees₀ listed-sizes₀ k₀ listed-fees listed-sizes k = length order - k
 
 loop-again : tie.Need-loop-again Inv-loop μ-loop
 loop-again c =

@@ -20,31 +20,31 @@ module _ (c : tie.After-gather) where
   wide : length (start .args .order .now) ≤ length (start .args .lens .now)
   wide = c .before .before .before .if2 .left
 
-  in-fees : length (start .args .order .now) ≤ length (c .gather .last .1 .1 .1 .0)
-  in-fees = omega (arith, few, c .gather .kept .1 .1 .1 .0)
+  listed-fees : length (start .args .order .now) ≤ length (c .gather .last .1 .1 .1 .0)
+  listed-fees = omega (arith, few, c .gather .kept .1 .1 .1 .0)
 
   as-long : length (take (length (start .args .order .now)) (c .gather .last .1 .1 .1 .0)) ≡ length (start .args .order .now)
-  as-long = length-take-le _ _ in-fees
+  as-long = length-take-le _ _ listed-fees
 
-  in-sizes : length (start .args .order .now) ≤ length (c .gather .last .1 .1 .1 .1 .0)
-  in-sizes = omega (arith, few, c .gather .kept .1 .1 .1 .1 .0)
+  listed-sizes : length (start .args .order .now) ≤ length (c .gather .last .1 .1 .1 .1 .0)
+  listed-sizes = omega (arith, few, c .gather .kept .1 .1 .1 .1 .0)
 
 slice-aggregate-write-chunks : tie.Need-slice-aggregate-write-chunks
 slice-aggregate-write-chunks c = sym (as-long (c .before .before .before))
 
 slice-aggregate-write-chunks-2 : tie.Need-slice-aggregate-write-chunks-2
-slice-aggregate-write-chunks-2 c = sym (length-take-le _ _ (in-sizes (c .before .before .before .before)))
+slice-aggregate-write-chunks-2 c = sym (length-take-le _ _ (listed-sizes (c .before .before .before .before)))
 
 write-chunks-requires : tie.Need-write-chunks-requires
 write-chunks-requires c κs =
     let g = c .before .before .before .before .before in
-    (same-long (g .gather .ensures) (in-fees g) (in-sizes g), (omega (arith, as-long g, few g), omega (arith, as-long g, wide g)))
+    (same-long (g .gather .ensures) (listed-fees g) (listed-sizes g), (omega (arith, as-long g, few g), omega (arith, as-long g, wide g)))
 
 returns-3 : tie.Need-returns-3
 returns-3 c =
     let w = c .before .before in
     let g = w .before .before .before .before .before .before in
-    gathered-lengths (g .gather .ensures) (in-fees g) (in-sizes g) _ (few g) (wide g) (w .write-chunks .ensures .0) (w .write-chunks .ensures .1)
+    gathered-lengths (g .gather .ensures) (listed-fees g) (listed-sizes g) _ (few g) (wide g) (w .write-chunks .ensures .0) (w .write-chunks .ensures .1)
 
 pub order-lengths-spec : {M : Type 1} → statement M
 order-lengths-spec =

@@ -6,16 +6,16 @@ use mathlib.Core.Bool.{true}
 use Rattle.txset.specs.declared.TxSet.{TxSet}
 use Rattle.txset.specs.Sets.{members, size, isSubset}
 use Rattle.output_order.specs.Rounds.{sumAbove, covered}
-use Rattle.output_order.proofs.Choices.{Held, Next, held-start, held-stop, next-less, next-position, held-skip, held-first, held-yields, held-keeps}
+use Rattle.output_order.proofs.Choices.{Found, Next, found-start, found-stop, next-less, next-position, found-skip, found-first, found-yields, found-keeps}
 use Rattle.output_order.proofs.next_chunk.Statement.{statement}
 use Rattle.output_order.proofs.next_chunk.Tie as tie
 
 abbrev Inv-loop : tie.InvT-loop
-Inv-loop outsides sum-fees sum-sizes tops done held₀ rest₀ held rest =
-    Held (sumAbove sum-fees sum-sizes tops) (covered outsides done) (members rest₀) held rest
+Inv-loop outsides sum-fees sum-sizes tops done found₀ rest₀ found rest =
+    Found (sumAbove sum-fees sum-sizes tops) (covered outsides done) (members rest₀) found rest
 
 abbrev μ-loop : tie.MeasureT-loop
-μ-loop outsides sum-fees sum-sizes tops done held₀ rest₀ held rest = size rest
+μ-loop outsides sum-fees sum-sizes tops done found₀ rest₀ found rest = size rest
 
 -- a turn takes the lowest
 next : (c : tie.After-without-lowest Inv-loop μ-loop)
@@ -39,7 +39,7 @@ tested c =
 loop-again : tie.Need-loop-again Inv-loop μ-loop
 loop-again c =
     let w = c .before .before .before in
-    held-skip (w .before .before .before .before .loop .inv) (next w) (tested (c .before) ∙ not-true _ (c .if2 .taken))
+    found-skip (w .before .before .before .before .loop .inv) (next w) (tested (c .before) ∙ not-true _ (c .if2 .taken))
 
 -- the lowest is ready
 ready : (c : tie.Else2 Inv-loop μ-loop)
@@ -50,7 +50,7 @@ ready c = tested (c .before) ∙ not-false _ (c .if2 .left)
 loop-again-2 : tie.Need-loop-again-2 Inv-loop μ-loop
 loop-again-2 c =
     let w = c .before .before .before .before in
-    held-first (w .before .before .before .before .loop .inv) (next w) (ready (c .before)) (c .if3 .taken)
+    found-first (w .before .before .before .before .loop .inv) (next w) (ready (c .before)) (c .if3 .taken)
 
 chunk-above-requires : tie.Need-chunk-above-requires Inv-loop μ-loop
 chunk-above-requires c κs =
@@ -63,20 +63,20 @@ loop-again-3 : tie.Need-loop-again-3 Inv-loop μ-loop
 loop-again-3 c =
     let else3 = c .before .before in
     let w = else3 .before .before .before .before in
-    held-yields (w .before .before .before .before .loop .inv) (next w) (ready (else3 .before)) (else3 .if3 .left)
+    found-yields (w .before .before .before .before .loop .inv) (next w) (ready (else3 .before)) (else3 .if3 .left)
     (sym (c .before .chunk-above .ensures) ∙ c .if4 .taken)
 
 loop-again-4 : tie.Need-loop-again-4 Inv-loop μ-loop
 loop-again-4 c =
     let else3 = c .before .before in
     let w = else3 .before .before .before .before in
-    held-keeps (w .before .before .before .before .loop .inv) (next w) (ready (else3 .before)) (else3 .if3 .left)
+    found-keeps (w .before .before .before .before .loop .inv) (next w) (ready (else3 .before)) (else3 .if3 .left)
     (sym (c .before .chunk-above .ensures) ∙ c .if4 .left)
 
 returns : tie.Need-returns Inv-loop μ-loop
 returns c =
     let end = c .before in
-    c .held-choice .ensures ∙ held-stop (end .before .before .loop .inv) (sym (end .before .is-empty .ensures) ∙ not-false _ (end .if1 .left))
+    c .found-choice .ensures ∙ found-stop (end .before .before .loop .inv) (sym (end .before .is-empty .ensures) ∙ not-false _ (end .if1 .left))
 
 pub next-chunk-spec : {M : Type 1} → statement M
 next-chunk-spec =
@@ -84,7 +84,7 @@ next-chunk-spec =
     (tie.spec
     Inv-loop
     μ-loop
-    (λ c. held-start _ _ _ _ refl)
+    (λ c. found-start _ _ _ _ refl)
     (λ c κs. search needs)
     (λ c κs. search needs)
     (λ c κs. search needs)

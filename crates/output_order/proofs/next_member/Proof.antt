@@ -8,16 +8,16 @@ use Rattle.txset.specs.declared.TxSet.{TxSet}
 use Rattle.txset.specs.Sets.{mem, members, size}
 use Rattle.feeset.specs.Scan.{ranksAbove}
 use Rattle.output_order.specs.Rounds.{freed}
-use Rattle.output_order.proofs.Choices.{Held, Next, held-start, held-stop, next-less, held-skip, held-first, held-yields, held-keeps}
+use Rattle.output_order.proofs.Choices.{Found, Next, found-start, found-stop, next-less, found-skip, found-first, found-yields, found-keeps}
 use Rattle.output_order.proofs.Ready.{freed-is}
 use Rattle.output_order.proofs.next_member.Statement.{statement}
 use Rattle.output_order.proofs.next_member.Tie as tie
 
 abbrev Inv-loop : tie.InvT-loop
-Inv-loop fees sizes ancestors all done held₀ rest₀ held rest = Held (ranksAbove (rateAt fees sizes)) (freed ancestors all done) (members rest₀) held rest
+Inv-loop fees sizes ancestors all done found₀ rest₀ found rest = Found (ranksAbove (rateAt fees sizes)) (freed ancestors all done) (members rest₀) found rest
 
 abbrev μ-loop : tie.MeasureT-loop
-μ-loop fees sizes ancestors all done held₀ rest₀ held rest = size rest
+μ-loop fees sizes ancestors all done found₀ rest₀ found rest = size rest
 
 -- a turn takes the lowest
 next : (c : tie.After-without-lowest Inv-loop μ-loop)
@@ -47,7 +47,7 @@ tested c =
 loop-again : tie.Need-loop-again Inv-loop μ-loop
 loop-again c =
     let w = c .before .before .before .before .before in
-    held-skip (w .before .before .before .before .loop .inv) (next w) (tested (c .before) ∙ not-true _ (c .if2 .taken))
+    found-skip (w .before .before .before .before .loop .inv) (next w) (tested (c .before) ∙ not-true _ (c .if2 .taken))
 
 -- the lowest is ready
 ready : (c : tie.Else2 Inv-loop μ-loop)
@@ -59,14 +59,14 @@ ready c = tested (c .before) ∙ not-false _ (c .if2 .left)
 loop-again-2 : tie.Need-loop-again-2 Inv-loop μ-loop
 loop-again-2 c =
     let w = c .before .before .before .before .before .before in
-    held-first (w .before .before .before .before .loop .inv) (next w) (ready (c .before)) (c .if3 .taken)
+    found-first (w .before .before .before .before .loop .inv) (next w) (ready (c .before)) (c .if3 .taken)
 
--- the lowest ranks above what is held exactly if the test says so
+-- the lowest ranks above what is found exactly if the test says so
 ranked : (c : tie.After-is-greater Inv-loop μ-loop)
     → let w = c .before .before .before .before .before .before .before .before .before .before in
     let loop = w .before .before .before .before in
     let args = loop .before .before .before .args in
-    ranksAbove (rateAt (args .fees .now) (args .sizes .now)) (w .before .lowest .result) (loop .loop .held) ≡ c .is-greater .result
+    ranksAbove (rateAt (args .fees .now) (args .sizes .now)) (w .before .lowest .result) (loop .loop .found) ≡ c .is-greater .result
 unfolding ranksAbove
 ranked c =
     let rank = c .before in
@@ -76,18 +76,18 @@ loop-again-3 : tie.Need-loop-again-3 Inv-loop μ-loop
 loop-again-3 c =
     let else3 = c .before .before .before .before .before in
     let w = else3 .before .before .before .before .before .before in
-    held-yields (w .before .before .before .before .loop .inv) (next w) (ready (else3 .before)) (else3 .if3 .left) (ranked (c .before) ∙ c .if4 .taken)
+    found-yields (w .before .before .before .before .loop .inv) (next w) (ready (else3 .before)) (else3 .if3 .left) (ranked (c .before) ∙ c .if4 .taken)
 
 loop-again-4 : tie.Need-loop-again-4 Inv-loop μ-loop
 loop-again-4 c =
     let else3 = c .before .before .before .before .before in
     let w = else3 .before .before .before .before .before .before in
-    held-keeps (w .before .before .before .before .loop .inv) (next w) (ready (else3 .before)) (else3 .if3 .left) (ranked (c .before) ∙ c .if4 .left)
+    found-keeps (w .before .before .before .before .loop .inv) (next w) (ready (else3 .before)) (else3 .if3 .left) (ranked (c .before) ∙ c .if4 .left)
 
 returns : tie.Need-returns Inv-loop μ-loop
 returns c =
     let end = c .before in
-    c .held-choice .ensures ∙ held-stop (end .before .before .loop .inv) (sym (end .before .is-empty .ensures) ∙ not-false _ (end .if1 .left))
+    c .found-choice .ensures ∙ found-stop (end .before .before .loop .inv) (sym (end .before .is-empty .ensures) ∙ not-false _ (end .if1 .left))
 
 pub next-member-spec : {M : Type 1} → statement M
 next-member-spec =
@@ -95,7 +95,7 @@ next-member-spec =
     (tie.spec
     Inv-loop
     μ-loop
-    (λ c. held-start _ _ _ _ refl)
+    (λ c. found-start _ _ _ _ refl)
     (λ c κs. search needs)
     (λ c κs. search needs)
     (λ c κs. search needs)

@@ -7,15 +7,16 @@ use Rattle.output_order.specs.Steps.{All}
 use Rattle.output_order.specs.Rounds.{chosen}
 use Rattle.output_order.proofs.Rounds.{Rounds, full-all, rounds-start, chosen-small, rounds-turn, rounds-stop, rounds-done}
 use Rattle.output_order.proofs.Rounds.{refuses-members, refuses-order, refuses-room}
+use Rattle.output_order.proofs.Surveying.{surveyed}
 use Rattle.output_order.proofs.output_order.Statement.{statement}
 use Rattle.output_order.proofs.output_order.Tie as tie
 
 abbrev Inv-loop : tie.InvT-loop
-Inv-loop fees sizes ancestors order room₀ n all sets tops count outsides sum-fees sum-sizes left₀ done₀ len₀ round₀ room left done len round =
-    Rounds fees sizes ancestors order room₀ all sets tops count outsides sum-fees sum-sizes room left done len round
+Inv-loop fees sizes ancestors order room₀ n all sets tops count outsides sum-fees sum-sizes left₀ out₀ round₀ room left out round =
+    Rounds fees sizes ancestors order room₀ all sets tops count outsides sum-fees sum-sizes room left (out .done) (out .len) round
 
 abbrev μ-loop : tie.MeasureT-loop
-μ-loop fees sizes ancestors order room₀ n all sets tops count outsides sum-fees sum-sizes left₀ done₀ len₀ round₀ room left done len round = count - round
+μ-loop fees sizes ancestors order room₀ n all sets tops count outsides sum-fees sum-sizes left₀ out₀ round₀ room left out round = count - round
 
 returns : tie.Need-returns Inv-loop μ-loop
 returns c = refuses-members _ _ _ _ _ (c .if1 .taken)
@@ -34,21 +35,21 @@ whole c = full-all (c .before .before .before .if1 .left) (c .full .ensures)
 cut-requires : tie.Need-cut-requires Inv-loop μ-loop
 cut-requires c κs = let full = c .before .before in (whole full, (full .before .before .if2 .left, (refl, refl)))
 
-survey-requires : tie.Need-survey-requires Inv-loop μ-loop
-survey-requires c κs =
-    let cut = c .before .before .before .before .before .before in
-    (whole (cut .before .before .before), (cut .cut .ensures .few, (refl, (refl, refl))))
+-- the cut, from the head of the loop
+abbrev made : tie.At-loop Inv-loop μ-loop → tie.After-cut Inv-loop μ-loop
+made c = c .before .before .before .before .before .before .before .before .before .before .before .before .before .before .before
 
 loop-holds : tie.Need-loop-holds Inv-loop μ-loop
 loop-holds c =
-    let survey = c .before .before .before .before .before in
-    let cut = survey .before .before .before .before .before .before .before in
+    let sums = c .before .before .before .before in
+    let find = sums .before .before .before .before .before in
+    let cut = find .before .before .before .before .before in
     let full = cut .before .before .before in
     rounds-start _ _ _
     (record {
       whole = whole full;
       chunks = cut .cut .ensures;
-      survey = survey .survey .ensures _ _ (cut .cut .ensures);
+      survey = surveyed _ (whole full) (cut .cut .ensures) (find .find-outsides .ensures) (sums .sum-chunks .ensures);
       short = full .before .before .if2 .left;
       long = cut .cut .kept .1 .1 .1 .1 .1 .0;
     })
@@ -56,19 +57,16 @@ loop-holds c =
     (full-all (cut .cut .ensures .few) (c .before .full2 .ensures))
     (c .empty .ensures)
 
-next-chunk-requires : tie.Need-next-chunk-requires Inv-loop μ-loop
-next-chunk-requires c κs = c .before .before .before .before .before .loop .inv .known .long
-
 returns-4 : tie.Need-returns-4 Inv-loop μ-loop
 returns-4 c =
     let choice = c .before .before in
-    rounds-stop (choice .before .before .before .before .before .before .loop .inv) (sym (choice .next-chunk .ensures) ∙ ap chosen (c .enum-told .given .1))
+    rounds-stop (choice .before .before .before .before .before .before .before .loop .inv) (sym (choice .next-chunk .ensures) ∙ ap chosen (c .enum-told .given .1))
 
 put-out-requires : tie.Need-put-out-requires Inv-loop μ-loop
 put-out-requires c κs =
     let d = c .before .before .before .before .before in
     let choice = d .before .before in
-    let inv = choice .before .before .before .before .before .before .loop .inv in
+    let inv = choice .before .before .before .before .before .before .before .loop .inv in
     (inv .known .whole, (chosen-small inv _ (sym (choice .next-chunk .ensures) ∙ ap chosen (d .k .given .1)) _ (c .before .at .ensures), inv .stands))
 
 add-round : tie.Need-add-round Inv-loop μ-loop
@@ -78,12 +76,12 @@ add-round c =
 
 loop-again : tie.Need-loop-again Inv-loop μ-loop
 loop-again c =
-    let put = c .before .before .before in
+    let put = c .before .before in
     let at = put .before .before in
     let remove = at .before .before in
     let d = remove .before .before in
     let choice = d .before .before in
-    let loop = choice .before .before .before .before .before in
+    let loop = choice .before .before .before .before .before .before in
     rounds-turn (loop .before .loop .inv) _ (sym (choice .next-chunk .ensures) ∙ ap chosen (d .k .given .1)) _ _ _ _ _
     (loop .loop-test .taken) (remove .remove .ensures) (at .at .ensures) (put .put-out .ensures)
 
@@ -102,9 +100,11 @@ output-order-spec =
     cut-requires
     (λ c. search needs)
     (λ c. search needs)
+    (λ c κs. (c .before .before .before .before .cut .ensures .few, refl))
     (λ c. search needs)
     (λ c. search needs)
-    survey-requires
+    (λ c. search needs)
+    (λ c κs. (c .before .before .before .before .before .before .before .before .before .cut .ensures .few, (refl, refl)))
     (λ c κs. search needs)
     (λ c κs. search needs)
     loop-holds
@@ -112,13 +112,13 @@ output-order-spec =
     (λ c. search needs)
     (λ c. search needs)
     (λ c. search needs)
-    next-chunk-requires
+    (λ c κs. c .before .before .before .before .before .before .loop .inv .known .long)
     (λ c. search needs)
     (λ c. search needs)
-    (λ c. c .before .before .before .before .before .before .before .before .loop .inv .placed .long)
+    (λ c. c .before .before .before .before .before .before .before .before .before .loop .inv .placed .long)
     returns-4
     (λ c κs. search needs)
-    (λ c. search needs)
+    (λ c. sym (made (c .before .before .before .before .before .before .before .before .before .before .before .before) .cut .kept .1 .1 .1 .1 .0))
     (λ c κs. search needs)
     put-out-requires
     add-round
