@@ -1,4 +1,7 @@
-// Module 4 of document 01: chunk_lengths. Each member starts a chunk, which swallows those before it while its feerate is strictly higher.
+// Module 4 of document 01: chunk_lengths. Each member starts a chunk, which swallows those before it while its feerate is strictly higher:
+// a paying child lifts its cheap parent into the block with it. At equal rates nothing is joined. Both parts are worth the same alone, and
+// small pieces fill the tail of a block where a large one does not fit. A member is pushed once and swallowed at most once, so the
+// compares are fewer than twice the members.
 ghost use mathlib.Core.Path.{_≡_};
 ghost use mathlib.Core.List.{_++_};
 ghost use Prim.Native.Nat.{_≤_};
@@ -67,6 +70,7 @@ fn gather(
     ensures { λ _. ⌜ Gathered (now (fees .entry)) (now (sizes .entry)) (now (order .entry)) (now («listed_fees» .exit)) (now («listed_sizes» .exit)) ⌝ }
 {
     let mut k: usize = 0;
+    // The first k are gathered.
     while k < order.len() {
         let member = order[k];
         FeeFrac::at(fees, sizes, member).put(listed_fees, listed_sizes, k);
@@ -89,11 +93,13 @@ fn write_chunks(fees: &[i64], sizes: &[u64], room: &mut [usize]) -> usize
     let mut stack = [none; POSITIONS];
     let mut count: usize = 0;
     let mut i: usize = 0;
+    // The first `count` of the stack are the chunks of the first i members.
     while i < fees.len() {
         let mut cur = Chunk {
             rate: FeeFrac::at(fees, sizes, i),
             len: 1,
         };
+        // `cur` has swallowed what stood above `count`.
         while 0 < count {
             let last = stack[count - 1];
             if !cur.rate.higher_rate(last.rate) {
@@ -110,6 +116,7 @@ fn write_chunks(fees: &[i64], sizes: &[u64], room: &mut [usize]) -> usize
         i += 1;
     }
     let mut j: usize = 0;
+    // The lengths of the first j chunks are written.
     while j < count {
         let chunk = stack[j];
         room[j] = chunk.len;

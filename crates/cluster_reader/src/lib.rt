@@ -1,4 +1,5 @@
-// What the cluster program reads: n, and then three lines for each member.
+// What the cluster program reads: n, and then three lines for each member. The form is strict, so that a number has one spelling and a
+// text that was cut off is never taken for a smaller cluster. Each byte is looked at a few times.
 ghost use mathlib.Core.Path.{_≡_};
 ghost use mathlib.Core.List.{[], _++_};
 ghost use Prim.Native.Nat.{_≤_};
@@ -103,6 +104,7 @@ fn read_members(
     let mut new_parents = [0u64; SET_WORDS];
     let mut at = from;
     let mut i: usize = 0;
+    // The first i members are read, and the next starts at `at`.
     while i < n {
         let Member::Read(m) = read_member(text, at) else {
             return Input::Malformed;
@@ -136,6 +138,7 @@ fn copy_rates(
     ensures { λ _. ⌜ now (sizes .exit) ≡ take n (now («new_sizes» .entry)) ++ drop n (now (sizes .entry)) ⌝ }
 {
     let mut k: usize = 0;
+    // The first k are copied.
     while k < n {
         FeeFrac::at(new_fees, new_sizes, k).put(fees, sizes, k);
         k += 1;
@@ -148,6 +151,7 @@ fn copy_sets(n: usize, new_parents: &[u64; SET_WORDS], parents: &mut [u64; SET_W
     ensures { λ _. ⌜ now (parents .exit) ≡ take n (now («new_parents» .entry)) ++ drop n (now (parents .entry)) ⌝ }
 {
     let mut k: usize = 0;
+    // The first k are copied.
     while k < n {
         TxSet::at(new_parents, k).put(parents, k);
         k += 1;
@@ -199,6 +203,7 @@ fn parents_of(text: &[u8]) -> Parents
         return Parents::Set(set);
     }
     let mut from: usize = 0;
+    // `set` has the positions that stand before `from`.
     loop {
         let end = lines::place(text, from, b',');
         let numerals::Number::Value(p) = numerals::read_number(&text[from..end]) else {

@@ -28,6 +28,7 @@ pub fn place(text: &[u8], from: usize, byte: u8) -> usize
     ensures { λ r. ⌜ r ≡ placeOf byte (now (text .entry)) from ⌝ }
 {
     let mut i = from;
+    // It is none of the bytes before i.
     while i < text.len() {
         if text[i] == byte {
             return i;
@@ -66,6 +67,7 @@ fn starts(line: &[u8], key: &[u8]) -> bool
     ensures { λ r. ⌜ r ≡ spec.starts (now (key .entry)) (now (line .entry)) ⌝ }
 {
     let mut i: usize = 0;
+    // The first i bytes are alike.
     while i < key.len() {
         if line.len() <= i {
             return false;

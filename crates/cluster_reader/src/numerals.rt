@@ -27,6 +27,7 @@ pub fn read_number(text: &[u8]) -> Number
     }
     let mut value: u64 = 0;
     let mut i: usize = 0;
+    // `value` is what the first i digits spell.
     while i < text.len() {
         let b = text[i];
         if b < b'0' {

@@ -62,6 +62,7 @@ fn read_input(text: &mut [u8]) -> Stop
     ensures { λ r. ⌜ Stopped (now (text .exit)) r ⌝ }
 {
     let mut len: usize = 0;
+    // The first `len` bytes are what was read, and they leave the answer open.
     while len < text.len() {
         let got = reads::read_more(text, len);
         match got {

@@ -1,4 +1,5 @@
-// What the cluster program prints, written to the start of a room; what stands behind it there stays.
+// What the cluster program prints, written to the start of a room; what stands behind it there stays. The rates are for people to read:
+// this is the one place where a rate is rounded, and no order depends on it.
 ghost use mathlib.Core.Path.{_≡_};
 ghost use Prim.Native.Nat.{_+_, _≤_, min};
 ghost use lib.ListN.{length};
@@ -59,6 +60,7 @@ fn numbers(order: &[usize], out: &mut [u8], from: usize) -> usize
 {
     let mut at = from;
     let mut place: usize = 0;
+    // The first `place` positions are written, up to `at`.
     while place < order.len() {
         at = number_at(place, order[place] as u64, out, at);
         place += 1;
@@ -92,6 +94,7 @@ fn chunk_lines(
     let mut at = from;
     let mut start: usize = 0;
     let mut k: usize = 0;
+    // The lines of the first k chunks are written, up to `at`; the next chunk starts at `start`.
     while k < lens.len() {
         let len = lens[k];
         let end = chunk_end(start, len, order.len());
@@ -183,6 +186,7 @@ fn bytes(from: &[u8], out: &mut [u8], at: usize) -> usize
     ensures { λ r. ⌜ Wrote (now (from .entry)) at (now (out .entry)) (now (out .exit)) r ⌝ }
 {
     let mut i: usize = 0;
+    // The first i bytes are written.
     while i < from.len() {
         out[at + i] = from[i];
         i += 1;

@@ -1,4 +1,6 @@
-// Module 3 of document 01: the closure of a cluster's parent links.
+// Module 3 of document 01: the closure of a cluster's parent links. A transaction can be mined only after all its ancestors, and one that
+// pays well pays for them too, so every rule above asks who is above whom. The closure is worked out once, in n rounds of at most n set
+// operations; each question is one operation then.
 ghost use Prim.Native.Nat.{ℕ, _≤_};
 ghost use lib.ListN.{length, take};
 ghost use mathlib.Core.Bool.{Bool};
@@ -50,6 +52,7 @@ fn link(parents: &[u64], n: usize, ancestors: &mut [u64], descendants: &mut [u64
 {
     let all = TxSet::full(n);
     let mut i: usize = 0;
+    // The links of the first i members are entered, in both tables.
     while i < n {
         let own = TxSet::at(parents, i).intersection(all).remove(i);
         own.put(ancestors, i);
@@ -64,6 +67,7 @@ fn close(n: usize, ancestors: &mut [u64], descendants: &mut [u64])
         → Holds (reach f n) (now (ancestors .exit)) (now (descendants .exit))) ⌝ }
 {
     let mut k: usize = 0;
+    // Whoever reaches another by way of members before k has it in its set.
     while k < n {
         let above = TxSet::at(ancestors, k);
         let below = TxSet::at(descendants, k);
@@ -81,6 +85,7 @@ fn include_self(n: usize, ancestors: &mut [u64], descendants: &mut [u64]) -> boo
 {
     let mut cyclic = false;
     let mut i: usize = 0;
+    // The first i are in their own sets; `cyclic` says whether one of them was there before.
     while i < n {
         let above = TxSet::at(ancestors, i);
         if above.contains(i) {

@@ -1,4 +1,7 @@
-// Module 1 of document 01: a fee over a size, its held sums, and the exact compare of two feerates.
+// Module 1 of document 01: a fee over a size, its held sums, and the exact compare of two feerates. A block has limited room, so what
+// counts for a miner is the fee for each unit of size. Rates are compared by products and never rounded: of two that differ by little the
+// better one wins, and equal ones are known to be equal. A compare takes two multiplications, and more only for numbers that no ordinary
+// cluster has.
 // Callers see `FeeFrac`, `Ordering` and the methods; how two products are compared is in `compare`.
 ghost use mathlib.Core.Path.{_≡_};
 ghost use lib.ListN.{set};

@@ -1,4 +1,5 @@
-// The feerate of a set of members, and of a list.
+// The feerate of a set of members, and of a list: what a miner is paid, and for how much size, if all of them are taken. One addition a
+// member.
 ghost use mathlib.Core.Path.{_≡_};
 ghost use Rattle.txset.specs.Sets.{members};
 ghost use Rattle.feeset.specs.Total.{total};
@@ -11,6 +12,7 @@ pub fn set_feerate(fees: &[i64], sizes: &[u64], set: TxSet) -> FeeFrac
 {
     let mut sum = FeeFrac::zero();
     let mut rest = set;
+    // `sum` is that of the members passed.
     while !rest.is_empty() {
         let i = rest.lowest();
         rest = rest.without_lowest();
@@ -25,6 +27,7 @@ pub fn list_feerate(fees: &[i64], sizes: &[u64], list: &[usize]) -> FeeFrac
 {
     let mut sum = FeeFrac::zero();
     let mut i: usize = 0;
+    // `sum` is that of the first i.
     while i < list.len() {
         sum = sum.add(FeeFrac::at(fees, sizes, list[i]));
         i += 1;

@@ -1,4 +1,6 @@
-// Modules 6, 5 and 7 of document 01 as a call: linearize. It checks its own input and leaves the room as it was where it refuses.
+// Modules 6, 5 and 7 of document 01 as a call: linearize. It checks its own input and leaves the room as it was where it refuses. What
+// pays best for its size comes first, with all that it needs. Most clusters of a pool are one transaction, which costs the checks alone;
+// 64 members take some hundreds to some thousands of compares (docs/SPEED.md).
 ghost use mathlib.Core.Path.{_≡_};
 ghost use mathlib.Core.List.{_++_};
 ghost use lib.ListN.{length, drop};

@@ -1,4 +1,6 @@
-// Module 7 of document 01: output_order. The chunks by rank, and inside each its members by rank, both subject to ancestors.
+// Module 7 of document 01: output_order. The chunks by rank, and inside each its members by rank, both subject to ancestors. Of equal rates
+// the smaller comes first, so what may not fit a block's tail comes last; and where rank leaves a tie positions decide, so that one
+// cluster has one order. Each round scans the chunks that are left, and each member of a chunk costs a scan of those left in it.
 ghost use mathlib.Core.Path.{_≡_};
 ghost use mathlib.Core.Bool.{true, _&&_};
 ghost use mathlib.Core.List.{List};
@@ -69,6 +71,7 @@ pub fn output_order(
         len: 0,
     };
     let mut round: usize = 0;
+    // `out` has the members of the chunks that were taken, `left` the chunks to come.
     while round < count {
         let done = out.done;
         let Choice::Of(k) = next_chunk(&outsides, &sum_fees, &sum_sizes, &tops, left, done) else {
@@ -99,6 +102,7 @@ fn cut(
     let count = order_lengths(fees, sizes, order, &mut lens);
     let mut start: usize = 0;
     let mut k: usize = 0;
+    // The first k chunks are entered, and the next starts at `start`.
     while k < count {
         let end = start + lens[k];
         let chunk = &order[start..end];
@@ -116,6 +120,7 @@ fn set_of(list: &[usize]) -> TxSet
 {
     let mut set = TxSet::empty();
     let mut k: usize = 0;
+    // `set` has the first k.
     while k < list.len() {
         let member = list[k];
         set = set.insert(member);
@@ -130,6 +135,7 @@ fn highest(list: &[usize]) -> usize
 {
     let mut top: usize = 0;
     let mut k: usize = 0;
+    // `top` is the highest of the first k.
     while k < list.len() {
         let member = list[k];
         if top < member {
@@ -146,6 +152,7 @@ fn find_outsides(ancestors: &[u64], all: TxSet, sets: &[u64], count: usize, outs
     ensures { λ _. ⌜ Outsides (now (ancestors .entry)) all (now (sets .entry)) (now (outsides .exit)) count ⌝ }
 {
     let mut k: usize = 0;
+    // Those of the first k are found.
     while k < count {
         let set = TxSet::at(sets, k);
         all_ancestors(ancestors, set)
@@ -169,6 +176,7 @@ fn sum_chunks(
     ensures { λ _. ⌜ Summed (now (fees .entry)) (now (sizes .entry)) (now (sets .entry)) (now («sum_fees» .exit)) (now («sum_sizes» .exit)) count ⌝ }
 {
     let mut k: usize = 0;
+    // The first k have their sums.
     while k < count {
         set_feerate(fees, sizes, TxSet::at(sets, k)).put(sum_fees, sum_sizes, k);
         k += 1;
@@ -181,6 +189,7 @@ fn all_ancestors(ancestors: &[u64], set: TxSet) -> TxSet
 {
     let mut found = TxSet::empty();
     let mut rest = set;
+    // `found` has the ancestors of the members passed.
     while !rest.is_empty() {
         let t = rest.lowest();
         rest = rest.without_lowest();
@@ -203,6 +212,7 @@ fn next_chunk(
 {
     let mut found: usize = POSITIONS;
     let mut rest = left;
+    // `found` is the best ready one of those passed, POSITIONS where there was none.
     while !rest.is_empty() {
         let k = rest.lowest();
         rest = rest.without_lowest();
@@ -248,6 +258,7 @@ fn put_out(
     let mut done = before.done;
     let mut len = before.len;
     let mut left = chunk.subtract(done);
+    // `done` and the first `len` places are what is out, `left` is what is left of the chunk.
     while !left.is_empty() {
         let Choice::Of(t) = next_member(fees, sizes, ancestors, all, left, done) else {
             return Out { done, len };
@@ -273,6 +284,7 @@ fn next_member(
 {
     let mut found: usize = POSITIONS;
     let mut rest = left;
+    // `found` is the best ready one of those passed, POSITIONS where there was none.
     while !rest.is_empty() {
         let t = rest.lowest();
         rest = rest.without_lowest();

@@ -1,4 +1,7 @@
-// Module 5 of document 01 on any dependencies: the backward and the forward pass, which merge groups or move them forward.
+// Module 5 of document 01 on any dependencies: the backward and the forward pass, which merge groups or move them forward. A group that
+// pays more than the one before it should be mined sooner: it steps in front of it, or, where it depends on it, the two go on as one and
+// the cheap one is lifted. A pass over n members compares at most n(n - 1) / 2 times; members are moved only where a group merges or
+// comes to rest.
 ghost use mathlib.Core.Path.{_≡_};
 ghost use Rattle.txset.specs.Sets.{memAt};
 ghost use Rattle.passes.specs.Pass.{forwardPass, backPass, ifFits};

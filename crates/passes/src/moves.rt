@@ -11,6 +11,7 @@ pub fn reverse(list: &mut [usize])
 {
     let n = list.len();
     let mut i: usize = 0;
+    // The first i and the last i have changed places.
     while i < n / 2 {
         let j = n - 1 - i;
         let low = list[i];

@@ -135,6 +135,7 @@ pub fn one_pass(fees: &[i64], sizes: &[u64], deps: &[u64], back: bool, order: &m
     let mut groups = [none; POSITIONS];
     let mut count: usize = 0;
     let mut k: usize = 0;
+    // The first k members stand in the list group by group, and the array has the `count` groups.
     while k < n {
         let t = order[k];
         let mut cur = Group::alone(t, TxSet::at(deps, t), feerate(fees, sizes, back, t));

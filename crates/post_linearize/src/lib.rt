@@ -1,4 +1,6 @@
-// Module 5 of document 01 as a call: post_linearize. It checks its own input and leaves the order as it was where it refuses.
+// Module 5 of document 01 as a call: post_linearize. It checks its own input and leaves the order as it was where it refuses. It is for
+// orders that come from elsewhere: what pays more moves forward as far as its dependencies let it. Beside the two passes it costs the
+// closure of the links.
 ghost use mathlib.Core.Path.{_≡_};
 ghost use Rattle.post_linearize.specs.PostLinearize.{reply, orderAfter};
 use depgraph::DepGraph;

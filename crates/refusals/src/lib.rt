@@ -1,4 +1,5 @@
-// What every call answers, and the checks of ranges and orders that the cluster calls share.
+// What every call answers, and the checks of ranges and orders that the cluster calls share. A call tests its whole input before it
+// writes anything, so a caller that is refused still has what it lent. Each check is one walk over the input.
 ghost use mathlib.Core.Path.{_≡_};
 ghost use mathlib.Core.Bool.{_&&_};
 ghost use lib.Dec.{leb};
@@ -76,6 +77,7 @@ pub fn first_outside(fees: &[i64]) -> usize
     ensures { λ r. ⌜ r ≡ firstOutside (now (fees .entry)) ⌝ }
 {
     let mut i: usize = 0;
+    // No fee before i is outside.
     while i < fees.len() {
         let fee = fees[i];
         if !fee_in_range(fee) {
@@ -98,6 +100,7 @@ pub fn is_order(n: usize, order: &[usize]) -> bool
     }
     let mut seen = TxSet::empty();
     let mut i: usize = 0;
+    // The first i are positions below n, no two alike, and `seen` has them.
     while i < n {
         let p = order[i];
         if n <= p {

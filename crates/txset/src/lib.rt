@@ -1,5 +1,6 @@
 // Module 2 of document 01: sets of cluster positions. Their meaning is membership, `mem` of specs/Sets.antt; that a
 // set is one word is known in this crate alone. A position that no set can hold is in none, and adding it changes nothing.
+// An operation on whole sets costs as much as one on a number, which is why ancestors are kept as sets.
 ghost use mathlib.Core.Path.{_≡_};
 ghost use mathlib.Core.Bool.{Bool, true, false, not, _&&_, _||_};
 ghost use Prim.Native.Nat.{ℕ};
@@ -156,6 +157,7 @@ impl TxSet {
         ensures { λ _. ⌜ Joined walk self (now (sets .entry)) (now (sets .exit)) ⌝ }
     {
         let mut rest = walk;
+        // The sets of those passed have taken the members of this one; all others are as they were.
         while !rest.is_empty() {
             let i = rest.lowest();
             rest = rest.without_lowest();
