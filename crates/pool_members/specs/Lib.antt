@@ -1,0 +1,3 @@
+pub mod Members
+pub mod Rows
+pub mod Layout
