@@ -5,15 +5,15 @@ use mathlib.Core.Bool.{Bool, cond}
 use mathlib.Core.List.{List, [], _∷_, _++_, map}
 use lib.ListN.{getD}
 use lib.IntN.{ℤ, pos, _+ℤ_}
-use lib.Signed.{ltZ}
 use Rattle.sorting.specs.Sorting.{sortedBy}
 use Rattle.feefrac.specs.declared.FeeFrac.{FeeFrac}
 use Rattle.feefrac.specs.declared.Ordering.{Ordering}
 use Rattle.feefrac.specs.declared.Ordering.the-variants.{Less, Equal, Greater}
-use Rattle.feefrac.specs.Rate.{rateOrder, sizeOrder, thenBy, isGreater}
+use Rattle.feefrac.specs.Rate.{sizeOrder, thenBy, isGreater}
 use Rattle.feeset.specs.Total.{total}
 use Rattle.chunking.specs.Orders.{chunksOf}
 use Rattle.linearize.specs.Linearize.{linearOrder}
+use Rattle.chunk_tests.specs.Tests.{paysOrder}
 use Rattle.txids.specs.declared.Txid.{Txid}
 use Rattle.txids.specs.Txids.{before}
 use Rattle.weights.specs.Weights.{adjusted}
@@ -78,18 +78,11 @@ allChunks p ds = chunksOver p ds (clusters p)
 
 -- ---- the order in which they are tried
 
-unfoldable pub feeOrder : ℤ → ℤ → Ordering
-feeOrder f g = cond (ltZ g f) Greater (cond (ltZ f g) Less Equal)
-
 -- the lower txid goes first
 unfoldable pub txidOrder : Txid → Txid → Ordering
 txidOrder t u = cond (before t u) Greater (cond (before u t) Less Equal)
 
--- "by exact feerate, then larger fee"
-unfoldable pub paysOrder : FeeFrac → FeeFrac → Ordering
-paysOrder a b = thenBy (rateOrder a b) (feeOrder (a .fee) (b .fee))
-
--- "then the cluster with the lower least txid, then their order in the cluster"
+-- "by exact feerate, then larger fee, then the cluster with the lower least txid, then their order in the cluster"
 unfoldable pub triedFirst : PoolChunk → PoolChunk → Bool
 triedFirst c d =
     isGreater (thenBy (paysOrder (c .rate) (d .rate)) (thenBy (txidOrder (c .least) (d .least)) (sizeOrder (d .place) (c .place))))

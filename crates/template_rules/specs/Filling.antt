@@ -1,16 +1,14 @@
 -- Document 01, "How a template is filled": the test of one chunk, with its outcome, and the list that is selected. `out` is what was
 -- selected so far, in order. Assumes nothing.
-use Prim.Native.Nat.{ℕ, zero, suc, _+_, _*_}
+use Prim.Native.Nat.{ℕ, zero, suc, _+_}
 use mathlib.Core.Bool.{Bool, cond, not}
 use mathlib.Core.List.{List, [], _∷_, _++_}
-use lib.Dec.{eqb, ltb}
+use lib.Dec.{eqb}
 use lib.ListN.{length, getD, drop}
-use lib.IntN.{ℤ, pos, _*ℤ_}
-use lib.Signed.{ltZ}
+use lib.IntN.{ℤ}
 use Rattle.lists.specs.Lists.{anyOf, allOf, only, elem}
-use Rattle.feefrac.specs.declared.FeeFrac.{FeeFrac}
 use Rattle.refusals.specs.Refusals.{Line, line, answerOf}
-use Rattle.weights.specs.Weights.{virtualSize}
+use Rattle.chunk_tests.specs.Tests.{isNegative, isBelow, overBudget, overSigops}
 use Rattle.pool_table.specs.Pool.{Pool, slotAt, slotCount, weightAt}
 use Rattle.pool_table.specs.Links.{isParent}
 use Rattle.pool_order.specs.Order.{slotsByTxid}
@@ -24,6 +22,9 @@ pub record Settings : Type 0 where
   pub deltas : List ℤ
   pub marks : List ℕ
   pub terms : Terms
+
+abbrev pub settings : List ℤ → List ℕ → Terms → Settings
+settings ds marks w = record { deltas = ds; marks = marks; terms = w }
 
 -- "a mark other than 0 withholds"
 unfoldable pub withheld : List ℕ → ℕ → Bool
@@ -53,7 +54,7 @@ grown p out slots = eachInTurn (collect p (slotCount p)) out slots
 unfoldable pub addition : Pool → List ℕ → List ℕ → List ℕ
 addition p out slots = drop (length out) (grown p out slots)
 
--- ---- the test of one chunk
+-- ---- the test of one chunk: what is asked of its numbers is in chunk_tests
 
 -- "the budget counts raw weight", and the sigop cost: sums over a list of slots
 unfoldable pub rawSum : Pool → List ℕ → ℕ
@@ -63,23 +64,6 @@ rawSum p (s ∷ ss) = weightAt p s + rawSum p ss
 unfoldable pub costSum : Pool → List ℕ → ℕ
 costSum p [] = 0
 costSum p (s ∷ ss) = slotAt p s .entry .cost + costSum p ss
-
--- "if its fee is negative"
-unfoldable pub isNegative : FeeFrac → Bool
-isNegative r = ltZ (r .fee) (pos 0)
-
--- "if fee × 1,000 is below minimum × virtual size of its adjusted weight (minimum 0 passes all)": a fee that is not negative is never
--- below 0
-unfoldable pub isBelow : ℕ → FeeFrac → Bool
-isBelow minimum r = ltZ (r .fee *ℤ pos 1000) (pos (minimum * virtualSize (r .size)))
-
--- "if used raw weight plus the addition exceeds the budget"
-unfoldable pub overBudget : Terms → ℕ → ℕ → Bool
-overBudget w used added = ltb (w .budget) (used + added)
-
--- "if reserve plus used plus added sigop cost exceeds 80,000"
-unfoldable pub overSigops : Terms → ℕ → ℕ → Bool
-overSigops w used added = ltb 80000 (w .reserve + (used + added))
 
 -- "Whenever an answer is an enum, a definition gives this paper's number and values for each of the enum's cases": the place among
 -- the seven reasons, in the order of the document
@@ -100,8 +84,8 @@ reasons p w out c =
     ∷ line (numberOf Withheld) (anyOf (withheld (w .marks)) (c .slots))
     ∷ line (numberOf NothingUnselected) (allOf (λ s. elem s out) (c .slots))
     ∷ line (numberOf WithheldAncestor) (anyOf (withheld (w .marks)) (addition p out (c .slots)))
-    ∷ line (numberOf OverBudget) (overBudget (w .terms) (rawSum p out) (rawSum p (addition p out (c .slots))))
-    ∷ line (numberOf OverSigops) (overSigops (w .terms) (costSum p out) (costSum p (addition p out (c .slots))))
+    ∷ line (numberOf OverBudget) (overBudget (w .terms .budget) (rawSum p out) (rawSum p (addition p out (c .slots))))
+    ∷ line (numberOf OverSigops) (overSigops (w .terms .reserve) (costSum p out) (costSum p (addition p out (c .slots))))
     ∷ []
 
 -- taken with its addition, or passed over with the number of the first reason that holds
