@@ -1,0 +1,4 @@
+pub mod Turns
+pub mod Ancestors
+pub mod Collect
+pub mod Selected
