@@ -1,0 +1,13 @@
+pub mod Slots
+pub mod Plain
+pub mod Compared
+pub mod Fewer
+pub mod Made
+pub mod Cost
+pub mod Removed
+pub mod OneMore
+pub mod Newcomer
+pub mod Added
+pub mod Kept
+pub mod Answers
+pub mod Theorems
