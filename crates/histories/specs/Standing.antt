@@ -1,0 +1,142 @@
+-- Demand 3's last sentence: "Which entries and links stand, and what each entry holds, follows from the calls by 01's module 8." What
+-- stands after a list of events, the latest first: by the calls that succeeded alone, without any pool. Assumes nothing.
+use Prim.Native.Nat.{ℕ, _+_, _*_}
+use mathlib.Core.Bool.{Bool, false, cond, not, _&&_, _||_}
+use mathlib.Core.List.{List, [], _∷_}
+use lib.Dec.{eqb}
+use Rattle.lists.specs.Below.{anyFrom, firstFrom}
+use Rattle.txids.specs.declared.Txid.{Txid}
+use Rattle.txids.specs.Txids.{sameTxid, txidAt, listedCount}
+use Rattle.pool_table.specs.declared.Limits.{Limits}
+use Rattle.pool_table.specs.declared.Entry.{Entry}
+use Rattle.pool_table.specs.Pool.{noEntry}
+use Rattle.pool_table.specs.Changes.{withCost}
+use Rattle.histories.specs.History.{Call, make, add, remove, setCost, clear, totals, template, Event}
+
+-- ---- which entries stand
+
+-- "an add of its txid succeeded since the last making or clear and no remove of it succeeded after"
+abbrev pub standsAfter : Call → Txid → Bool → Bool
+standsAfter (make l) x before = false
+standsAfter (add e listed) x before = sameTxid (e .txid) x || before
+standsAfter (remove y) x before = not (sameTxid y x) && before
+standsAfter (setCost y c) x before = before
+standsAfter clear x before = false
+standsAfter totals x before = before
+standsAfter (template w room) x before = before
+
+unfoldable pub stands : List Event → Txid → Bool
+stands [] x = false
+stands (e ∷ es) x = cond (e .done) (standsAfter (e .call) x (stands es x)) (stands es x)
+
+-- ---- what each entry holds
+
+-- "An entry keeps what its add gave it, save a cost set later."
+abbrev pub heldAfter : Call → Txid → Entry → Entry
+heldAfter (make l) x before = before
+heldAfter (add e listed) x before = cond (sameTxid (e .txid) x) e before
+heldAfter (remove y) x before = before
+heldAfter (setCost y c) x before = cond (sameTxid y x) (withCost c before) before
+heldAfter clear x before = before
+heldAfter totals x before = before
+heldAfter (template w room) x before = before
+
+unfoldable pub held : List Event → Txid → Entry
+held [] x = noEntry
+held (e ∷ es) x = cond (e .done) (heldAfter (e .call) x (held es x)) (held es x)
+
+-- ---- which links stand
+
+-- whether a list of txids has this one
+unfoldable pub lists : List ℕ → Txid → Bool
+lists listed x = anyFrom (λ j. sameTxid (txidAt listed (32 * j)) x) (listedCount listed) 0
+
+-- a link from x to its parent y: x's add listed y, which stood then and was not x itself, and "a link stands until one of its ends is removed or
+-- the pool is cleared or made anew"
+abbrev pub linkedAfter : Call → List Event → Txid → Txid → Bool → Bool
+linkedAfter (make l) es x y before = false
+linkedAfter (add e listed) es x y before = cond (sameTxid (e .txid) x) (lists listed y && (stands es y && not (sameTxid x y))) before
+linkedAfter (remove z) es x y before = not (sameTxid z x) && (not (sameTxid z y) && before)
+linkedAfter (setCost z c) es x y before = before
+linkedAfter clear es x y before = false
+linkedAfter totals es x y before = before
+linkedAfter (template w room) es x y before = before
+
+unfoldable pub linked : List Event → Txid → Txid → Bool
+linked [] x y = false
+linked (e ∷ es) x y = cond (e .done) (linkedAfter (e .call) es x y (linked es x y)) (linked es x y)
+
+-- ---- how many, and what they weigh: "all weights added less all removed, since the last clear or making"
+
+-- the sum, over the adds since then, of what w says of an entry
+abbrev pub addedAfter : (Entry → ℕ) → Call → ℕ → ℕ
+addedAfter w (make l) before = 0
+addedAfter w (add e listed) before = w e + before
+addedAfter w (remove y) before = before
+addedAfter w (setCost y c) before = before
+addedAfter w clear before = 0
+addedAfter w totals before = before
+addedAfter w (template u room) before = before
+
+unfoldable pub added : (Entry → ℕ) → List Event → ℕ
+added w [] = 0
+added w (e ∷ es) = cond (e .done) (addedAfter w (e .call) (added w es)) (added w es)
+
+-- the same over the removes, of the entry that was held
+abbrev pub removedAfter : (Entry → ℕ) → Call → List Event → ℕ → ℕ
+removedAfter w (make l) es before = 0
+removedAfter w (add e listed) es before = before
+removedAfter w (remove y) es before = w (held es y) + before
+removedAfter w (setCost y c) es before = before
+removedAfter w clear es before = 0
+removedAfter w totals es before = before
+removedAfter w (template u room) es before = before
+
+unfoldable pub removed : (Entry → ℕ) → List Event → ℕ
+removed w [] = 0
+removed w (e ∷ es) = cond (e .done) (removedAfter w (e .call) es (removed w es)) (removed w es)
+
+-- ---- where they stand: "Adding takes the lowest free slot; a freed slot is free." The pool has n slots
+
+-- the slot of each txid, and which slots are in use
+pub record Board : Type 0 where
+  pub place : Txid → ℕ
+  pub used : ℕ → Bool
+
+abbrev pub emptyBoard : Board
+emptyBoard = record { place = λ x. 0; used = λ s. false }
+
+unfoldable pub lowestUnused : ℕ → Board → ℕ
+lowestUnused n b = firstFrom (λ s. not (b .used s)) n 0
+
+abbrev pub boardAfter : ℕ → Call → Board → Board
+boardAfter n (make l) b = emptyBoard
+boardAfter n (add e listed) b =
+    record {
+      place = λ x. cond (sameTxid (e .txid) x) (lowestUnused n b) (b .place x);
+      used = λ s. eqb s (lowestUnused n b) || b .used s;
+    }
+boardAfter n (remove y) b = record { place = b .place; used = λ s. not (eqb s (b .place y)) && b .used s }
+boardAfter n (setCost y c) b = b
+boardAfter n clear b = emptyBoard
+boardAfter n totals b = b
+boardAfter n (template w room) b = b
+
+unfoldable pub board : ℕ → List Event → Board
+board n [] = emptyBoard
+board n (e ∷ es) = cond (e .done) (boardAfter n (e .call) (board n es)) (board n es)
+
+-- ---- the limits: "kept until it is made anew"
+
+abbrev pub limitsAfter : Call → Limits → Limits
+limitsAfter (make l) before = l
+limitsAfter (add e listed) before = before
+limitsAfter (remove y) before = before
+limitsAfter (setCost y c) before = before
+limitsAfter clear before = before
+limitsAfter totals before = before
+limitsAfter (template w room) before = before
+
+unfoldable pub limits : List Event → Limits
+limits [] = record { count = 0; size = 0; «bytes_per_sigop» = 0 }
+limits (e ∷ es) = cond (e .done) (limitsAfter (e .call) (limits es)) (limits es)
