@@ -2,11 +2,11 @@
 use Prim.Native.Nat.{ℕ, _+_, _*_, _-_, _≤_, _<_}
 use native.Mathlib.Omega.{arith}
 use mathlib.Core.Path.{_≡_, refl, sym, _∙_}
-use mathlib.Core.Bool.{true}
+use mathlib.Core.Bool.{true, false}
 use lib.Dec.{ltb}
 use lib.IntN.{ℤ, pos, negsuc, natAbs, _*ℤ_}
 use lib.Signed.{ltZ}
-use borrow.Author.Tests.{lt-ltb}
+use borrow.Author.Tests.{eq-eqb, ne-eqb, lt-ltb}
 use Rattle.lists.proofs.Numbers.{ltb-same}
 use Rattle.feefrac.specs.declared.FeeFrac.{FeeFrac}
 use Rattle.feefrac.proofs.Signed.{up, down, Le, Lt, up-product, down-product, less-parts}
@@ -43,15 +43,20 @@ below-zero z n h =
     ∙ lt-ltb (up (z *ℤ pos 1000) + 0) (n + down (z *ℤ pos 1000)) (omega (arith, up-product z 1000, down-product z 1000))
 
 module _ (minimum : ℕ) (r : FeeFrac) where
-  -- a negative fee is below any minimum
-  pub negative-below : Lt (r .fee) (pos 0) → true ≡ isBelow minimum r
+  -- none is below a minimum of 0
+  pub none-below : minimum ≡ 0 → false ≡ isBelow minimum r
   unfolding isBelow
-  negative-below h = sym (below-zero (r .fee) (minimum * virtualSize (r .size)) h)
+  none-below e = rw (eq-eqb minimum 0 e)
 
-  -- any other is its size without sign
-  pub fee-below : Le (pos 0) (r .fee) → ltb (natAbs (r .fee) * 1000) (minimum * virtualSize (r .size)) ≡ isBelow minimum r
+  -- a negative fee is below any other
+  pub negative-below : (minimum ≡ 0 → ⊥) → Lt (r .fee) (pos 0) → true ≡ isBelow minimum r
   unfolding isBelow
-  fee-below h = go (r .fee) (minimum * virtualSize (r .size)) h
+  negative-below z h = rw (ne-eqb minimum 0 z) (sym (below-zero (r .fee) (minimum * virtualSize (r .size)) h))
+
+  -- a fee that is not negative is its size without sign
+  pub fee-below : (minimum ≡ 0 → ⊥) → Le (pos 0) (r .fee) → ltb (natAbs (r .fee) * 1000) (minimum * virtualSize (r .size)) ≡ isBelow minimum r
+  unfolding isBelow
+  fee-below z h = rw (ne-eqb minimum 0 z) (go (r .fee) (minimum * virtualSize (r .size)) h)
     where
       go : (z : ℤ) (n : ℕ) → Le (pos 0) z → ltb (natAbs z * 1000) n ≡ ltZ (z *ℤ pos 1000) (pos n)
       go (pos m) n l = refl

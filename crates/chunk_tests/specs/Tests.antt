@@ -1,8 +1,8 @@
 -- Document 01, "How a template is filled": what is asked of a chunk's numbers. Which of two is tried first by what it pays, and the tests
 -- against the minimum, the budget and the sigop limit. Assumes nothing.
 use Prim.Native.Nat.{ℕ, _+_, _*_}
-use mathlib.Core.Bool.{Bool, cond}
-use lib.Dec.{ltb}
+use mathlib.Core.Bool.{Bool, cond, not, _&&_}
+use lib.Dec.{eqb, ltb}
 use lib.IntN.{ℤ, pos, _*ℤ_}
 use lib.Signed.{ltZ}
 use Rattle.feefrac.specs.declared.FeeFrac.{FeeFrac}
@@ -22,10 +22,9 @@ paysOrder a b = thenBy (rateOrder a b) (feeOrder (a .fee) (b .fee))
 unfoldable pub isNegative : FeeFrac → Bool
 isNegative r = ltZ (r .fee) (pos 0)
 
--- "if fee × 1,000 is below minimum × virtual size of its adjusted weight (minimum 0 passes all)": a fee that is not negative is never
--- below 0
+-- "if fee × 1,000 is below minimum × virtual size of its adjusted weight (minimum 0 passes all)"
 unfoldable pub isBelow : ℕ → FeeFrac → Bool
-isBelow minimum r = ltZ (r .fee *ℤ pos 1000) (pos (minimum * virtualSize (r .size)))
+isBelow minimum r = not (eqb minimum 0) && ltZ (r .fee *ℤ pos 1000) (pos (minimum * virtualSize (r .size)))
 
 -- "if used raw weight plus the addition exceeds the budget"
 unfoldable pub overBudget : ℕ → ℕ → ℕ → Bool

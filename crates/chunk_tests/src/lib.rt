@@ -33,8 +33,11 @@ pub fn is_negative(rate: FeeFrac) -> bool
 pub fn is_below(minimum: u64, rate: FeeFrac) -> bool
     ensures { λ r. ⌜ r ≡ isBelow minimum rate ⌝ }
 {
+    if minimum == 0 {
+        return false; // it passes all
+    }
     if rate.fee < 0 {
-        return true; // below any minimum, 0 as well
+        return true;
     }
     let size = AdjustedWeight(rate.size).virtual_size();
     let paid = wide::mul_wide(rate.fee as u64, 1_000);
