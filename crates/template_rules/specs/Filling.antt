@@ -84,7 +84,7 @@ reasons p w out c =
     ∷ line (numberOf Withheld) (anyOf (withheld (w .marks)) (c .slots))
     ∷ line (numberOf NothingUnselected) (allOf (λ s. elem s out) (c .slots))
     ∷ line (numberOf WithheldAncestor) (anyOf (withheld (w .marks)) (addition p out (c .slots)))
-    ∷ line (numberOf OverBudget) (overBudget (w .terms .budget) (rawSum p out) (rawSum p (addition p out (c .slots))))
+    ∷ line (numberOf OverBudget) (overBudget (w .terms .budget .0) (rawSum p out) (rawSum p (addition p out (c .slots))))
     ∷ line (numberOf OverSigops) (overSigops (w .terms .reserve) (costSum p out) (costSum p (addition p out (c .slots))))
     ∷ []
 

@@ -11,7 +11,7 @@ use Rattle.pool_table.specs.declared.Limits.{Limits}
 use Rattle.pool_table.specs.declared.Entry.{Entry}
 use Rattle.pool_table.specs.Pool.{noEntry}
 use Rattle.pool_table.specs.Changes.{withCost}
-use Rattle.histories.specs.History.{Call, make, add, remove, setCost, clear, totals, template, Event}
+use Rattle.pool_history.specs.History.{Call, make, add, remove, setCost, clear, totals, template, Event}
 
 -- ---- which entries stand
 
