@@ -18,6 +18,7 @@ use Rattle.pool_table.specs.Pool.{Pool, slotCount, slotAt, occupied}
 use Rattle.pool_table.specs.Links.{isParent, isChild, isLinked, Together, itself, linked, inCluster}
 use Rattle.pool_table.specs.WellFormed.{isAnswered, linksMutual}
 use Rattle.pool_clusters.proofs.Linked.{linked-bounded, cluster-onward}
+use Rattle.pool_clusters.proofs.Reached.{onward-closed}
 
 -- ---- the computed cluster is the inductive one
 
@@ -44,27 +45,62 @@ named-child : (p : Pool) (a b : ℕ) → isChild p a b ≡ true → hasIn (slotA
 unfolding isChild
 named-child p a b e = and-both (ltb a (slotCount p) && ltb b (slotCount p)) (hasIn (slotAt p a .children) b) e .1
 
+-- a parent, or a child, is a link
+parent-linked : (p : Pool) (a b : ℕ) → isParent p a b ≡ true → isLinked p a b ≡ true
+unfolding isLinked
+parent-linked p a b e = ap (λ (x : Bool). x || isChild p a b) e
+
+child-linked : (p : Pool) (a b : ℕ) → isChild p a b ≡ true → isLinked p a b ≡ true
+unfolding isLinked
+child-linked p a b e = ap (λ (x : Bool). isParent p a b || x) e ∙ or-true (isParent p a b)
+
+-- so a parent is in the cluster
+pub parent-cluster : (p : Pool) (a b : ℕ) → isParent p a b ≡ true → inCluster p a b ≡ true
+parent-cluster p a b e = together-cluster p (linked (step (parent-linked p a b e)))
+
+-- what is asked of those who are named
+named-both : (n o x : Bool) → n ≡ true → (not n || (o && x)) ≡ true → (o ≡ true) × (x ≡ true)
+named-both true o x e h = and-both o x h
+named-both false o x e h = absurd (false≢true e)
+
 module _ (p : Pool) (few : slotCount p ≤ capacity) (mutual' : linksMutual p ≡ true) where
-  answered : (a b : ℕ) → a < slotCount p → b < slotCount p → isAnswered p a b ≡ true
+  answered : (a b : ℕ) → isLinked p a b ≡ true → isAnswered p a b ≡ true
   unfolding linksMutual
-  answered a b l m =
+  answered a b h =
+      let l = linked-bounded p .from a b h in
+      let m = linked-bounded p .to a b h in
       all-at (λ b. isAnswered p a b) capacity 0
       (all-at (λ a. allFrom (λ b. isAnswered p a b) capacity 0) (slotCount p) 0 mutual' a (omega arith) (omega arith)) b (omega arith) (omega arith)
 
+  -- who is named is occupied, and names the other
+  pub parent-named : (a b : ℕ) → isParent p a b ≡ true → (occupied p b ≡ true) × (isChild p b a ≡ true)
+  unfolding isAnswered
+  parent-named a b e =
+      named-both (hasIn (slotAt p a .parents) b) (occupied p b) (isChild p b a) (named-parent p a b e)
+      (and-both (not (hasIn (slotAt p a .parents) b) || (occupied p b && isChild p b a)) _ (answered a b (parent-linked p a b e)) .0)
+
+  pub child-named : (a b : ℕ) → isChild p a b ≡ true → (occupied p b ≡ true) × (isParent p b a ≡ true)
+  unfolding isAnswered
+  child-named a b e =
+      named-both (hasIn (slotAt p a .children) b) (occupied p b) (isParent p b a) (named-child p a b e)
+      (and-both (not (hasIn (slotAt p a .parents) b) || (occupied p b && isChild p b a)) _ (answered a b (child-linked p a b e)) .1)
+
   pub linked-back : (a b : ℕ) → isLinked p a b ≡ true → isLinked p b a ≡ true
-  unfolding isLinked isAnswered
+  unfolding isLinked
   linked-back a b h =
-      let l = linked-bounded p .from a b h in
-      let m = linked-bounded p .to a b h in
-      let both = and-both (not (hasIn (slotAt p a .parents) b) || (occupied p b && isChild p b a)) _ (answered a b l m) in
       ⊎-elim
-      (λ e. ap (λ (x : Bool). isParent p b a || x) (given (hasIn (slotAt p a .parents) b) (occupied p b) (isChild p b a) (named-parent p a b e) (both .0)) ∙ or-true (isParent p b a))
-      (λ e. ap (λ (x : Bool). x || isChild p b a) (given (hasIn (slotAt p a .children) b) (occupied p b) (isParent p b a) (named-child p a b e) (both .1)))
+      (λ e. child-linked p b a (parent-named a b e .1))
+      (λ e. parent-linked p b a (child-named a b e .1))
       (or-either (isParent p a b) (isChild p a b) h)
-    where
-      given : (n o x : Bool) → n ≡ true → (not n || (o && x)) ≡ true → x ≡ true
-      given true o x e h = and-both o x h .1
-      given false o x e h = absurd (false≢true e)
+
+  pub linked-occupied : (a b : ℕ) → isLinked p a b ≡ true → occupied p b ≡ true
+  unfolding isLinked
+  linked-occupied a b h = ⊎-elim (λ e. parent-named a b e .0) (λ e. child-named a b e .0) (or-either (isParent p a b) (isChild p a b) h)
+
+  -- the cluster of an occupied slot has no free one
+  pub cluster-occupied : (a b : ℕ) → occupied p a ≡ true → inCluster p a b ≡ true → occupied p b ≡ true
+  cluster-occupied a b o h =
+      onward-closed (isLinked p) (slotCount p) (occupied p) (λ i j _ e. linked-occupied i j e) a b (sym (cluster-onward p a b) ∙ h) o
 
   -- who is in a's cluster has a in his
   pub cluster-back : (a b : ℕ) → inCluster p a b ≡ true → inCluster p b a ≡ true
