@@ -2,3 +2,8 @@ pub mod Turns
 pub mod Ancestors
 pub mod Collect
 pub mod Selected
+pub mod Chunks
+pub mod Filling
+pub mod Free
+pub mod One
+pub mod Theorems

@@ -1,23 +1,22 @@
 -- What holds of every list that is selected (specs/Filling.antt) in a sound pool: no slot twice, entries alone, each after all its
 -- ancestors, so that there are no more than the pool has entries. Assumes nothing.
 use mathlib.Core.Path.{_≡_, refl, sym, ap, ap₂, _∙_}
-use mathlib.Core.Bool.{Bool, true, false, not, _&&_, false≢true}
+use mathlib.Core.Bool.{Bool, true, not, _&&_, false≢true}
 use mathlib.Core.Logic.{⊎-elim}
 use mathlib.Core.List.{List, [], _∷_, _++_}
-use Prim.Native.Nat.{ℕ, _+_, _≤_}
+use Prim.Native.Nat.{ℕ, _≤_}
 use native.Mathlib.Omega.{arith}
 use lib.ListN.{length, length-append}
-use Rattle.lists.specs.Below.{bit}
 use Rattle.lists.specs.Lists.{anyOf, elem, distinct}
-use Rattle.lists.proofs.Ranges.{count-all, count-parts, count-within}
+use Rattle.lists.proofs.Ranges.{count-within}
 use Rattle.lists.proofs.Lists.{elem-left, in-cons, in-snoc, split-snoc, distinct-snoc}
-use Rattle.lists.proofs.Once.{once-missing}
 use Rattle.slotsets.specs.SlotSets.{capacity}
 use Rattle.ways.specs.Ways.{Way, step, further}
 use Rattle.pool_table.specs.Pool.{Pool, slotCount, occupied, entries}
 use Rattle.pool_table.specs.Links.{isParent}
 use Rattle.pool_links.proofs.Mutual.{occupied-in}
 use Rattle.pool_rules.proofs.Sound.{Sound}
+use Rattle.pool_members.proofs.Only.{once-count}
 use Rattle.template_rules.specs.Filling.{collect, grown}
 use Rattle.template_rules.proofs.Ancestors.{ancestors}
 use Rattle.template_rules.proofs.Collect.{Kept, Entries, collect-keeps, grown-keeps}
@@ -85,12 +84,6 @@ module _ (p : Pool) where
       let n = slotCount p in
       omega (
         arith,
-        once-missing n out (record { below = λ i m. occupied-in p i (q .held i m); once = q .once }),
-        count-all n 0,
-        count-parts (λ i. true) (λ i. elem i out) (λ i. not (elem i out)) n 0 (λ j. go (elem j out)),
+        once-count n out (record { below = λ i m. occupied-in p i (q .held i m); once = q .once }),
         count-within (occupied p) (λ i. elem i out) n 0 (λ j _ _. q .held j),
       )
-    where
-      go : (b : Bool) → bit true ≡ bit b + bit (not b)
-      go true = refl
-      go false = refl

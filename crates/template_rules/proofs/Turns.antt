@@ -1,9 +1,9 @@
 -- Laws of `eachInTurn` (specs/Filling.antt), whatever is done for each, and of a list that starts as another. Assumes nothing.
-use mathlib.Core.Path.{_≡_, refl, sym, ap, ap₂, _∙_}
+use mathlib.Core.Path.{_≡_, refl, sym, ap, _∙_}
 use mathlib.Core.Bool.{Bool, true, false≢true}
 use mathlib.Core.Logic.{_⊎_, inl, inr, ⊎-elim}
 use mathlib.Core.List.{List, [], _∷_, _++_, append-nil, append-assoc}
-use Prim.Native.Nat.{ℕ, _+_, _≤_}
+use Prim.Native.Nat.{ℕ, _≤_}
 use native.Mathlib.Omega.{arith}
 use lib.ListN.{length, drop, length-append}
 use lib.Seq.{drop-append-seam}
@@ -55,7 +55,8 @@ module _ (f : List ℕ → ℕ → List ℕ) where
 
   -- each is there at the end, where its own turn writes it and nothing is lost
   pub turns-in : ((out : List ℕ) (s : ℕ) → Starts out (f out s)) → (ss : List ℕ)
-      → ((out : List ℕ) (s : ℕ) → elem s ss ≡ true → elem s (f out s) ≡ true) → (out : List ℕ) (x : ℕ) → elem x ss ≡ true → elem x (eachInTurn f out ss) ≡ true
+      → ((out : List ℕ) (s : ℕ) → elem s ss ≡ true → elem s (f out s) ≡ true) → (out : List ℕ) (x : ℕ) → elem x ss ≡ true
+      → elem x (eachInTurn f out ss) ≡ true
   unfolding eachInTurn elem anyOf
   turns-in h [] w out x m = absurd (false≢true m)
   turns-in h (s ∷ ss) w out x m =
