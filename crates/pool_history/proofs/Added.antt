@@ -6,10 +6,10 @@ use mathlib.Core.Logic.{_⊎_, inl, inr, ⊎-elim}
 use mathlib.Core.List.{List}
 use Prim.Native.Nat.{ℕ, _+_, _≤_, _<_}
 use native.Mathlib.Omega.{arith}
-use lib.Dec.{eqb, leb, ltb}
-use borrow.Author.Tests.{eq-eqb, ne-eqb, eqb-true, le-leb, leb-true, ltb-false}
+use lib.Dec.{eqb, ltb}
+use borrow.Author.Tests.{eq-eqb, ne-eqb, eqb-true, le-leb, ltb-false}
 use Rattle.lists.proofs.Below.{count-without}
-use Rattle.lists.proofs.Bools.{clash, cases, and-both, and-left, and-right, or-either, is-false}
+use Rattle.lists.proofs.Bools.{clash, cases, and-both, or-either, is-false}
 use Rattle.lists.proofs.Numbers.{by-number}
 use Rattle.slotsets.specs.SlotSets.{capacity}
 use Rattle.weights.specs.Weights.{virtualSize}
@@ -17,7 +17,7 @@ use Rattle.ways.proofs.Cycles.{onward}
 use Rattle.pool_table.specs.declared.Entry.{Entry}
 use Rattle.pool_table.specs.declared.Side.{Side}
 use Rattle.pool_table.specs.declared.Side.the-variants.{Parents, Children}
-use Rattle.pool_table.specs.Pool.{Slot, Pool, free, slotAt, slotCount, isOccupied, occupied}
+use Rattle.pool_table.specs.Pool.{Slot, Pool, free, slotAt, slotCount, occupied}
 use Rattle.pool_table.specs.Ranges.{entryInRange}
 use Rattle.pool_table.specs.Links.{isParent, isChild, isLinked, inCluster, inClusters, countOf, weightOf}
 use Rattle.pool_table.specs.WellFormed.{isWithin, sound}
@@ -32,9 +32,9 @@ use Rattle.pool_rules.proofs.Listed.{listed-held}
 use Rattle.pool_rules.proofs.Sound.{sound-parts}
 use Rattle.pool_history.proofs.Plain.{names, Plain, namer, parent-names, child-names, parent-is, child-is, sound-plain, plain-sound}
 use Rattle.pool_history.proofs.Compared.{within-part, weight-but}
-use Rattle.pool_history.proofs.Slots.{same-occupied}
 use Rattle.pool_history.proofs.OneMore.{still-open, Joins, joined, was-alone, not-reached, joined-on, else-on}
-use Rattle.pool_history.proofs.Newcomer.{not-held, room-there, added-count, added-else, added-same, added-here, parent-else, added-parents, added-children}
+use Rattle.pool_history.proofs.Newcomer.{not-held, room-there, added-count, added-else, added-occupied, added-same, added-own, added-there}
+use Rattle.pool_history.proofs.Newcomer.{parent-else, added-parents, added-children}
 
 -- what the refusals 3, 6, 7, 8 and 9 leave
 pub record Addable (p : Pool) (e : Entry) (listed : List ℕ) : Type 0 where
@@ -67,27 +67,20 @@ module _ (p : Pool) (w : Wholes (p .slots)) (small : slotCount p ≤ capacity) (
   -- ---- entries
 
   own : slotAt q r .entry ≡ e
-  own = ap (λ (x : Slot). x .entry) (added-here p e listed (can .room))
+  own = added-own p e listed (can .room)
 
   taken : occupied q r ≡ true
-  unfolding isOccupied entryInRange
-  taken =
-      let h = and-right (leb (e .fee) 2100000000000000) (leb 1 (e .weight .0) && leb (e .weight .0) 4000000) (can .ranged) in
-      let l : 1 ≤ e .weight .0 = leb-true 1 (e .weight .0) (and-left (leb 1 (e .weight .0)) (leb (e .weight .0) 4000000) h) in
-      rw own (ap not (ne-eqb (e .weight .0) 0 (λ z. omega arith)))
-
-  else-occupied : (s : ℕ) → (r ≡ s → ⊥) → occupied q s ≡ occupied p s
-  else-occupied s n = same-occupied (slotAt q s) (slotAt p s) (ap (λ (e : Entry). e .weight) (added-else p e listed s n))
+  taken = added-there p e listed (can .room) (can .ranged)
 
   -- who was there is not r, and still there
   other : (s : ℕ) → occupied p s ≡ true → r ≡ s → ⊥
   other s o z = clash o (ap (occupied p) (sym z) ∙ was-free)
 
   still : (s : ℕ) → occupied p s ≡ true → occupied q s ≡ true
-  still s o = else-occupied s (other s o) ∙ o
+  still s o = added-occupied p e listed s (other s o) ∙ o
 
   was : (s : ℕ) → (r ≡ s → ⊥) → occupied q s ≡ true → occupied p s ≡ true
-  was s n o = sym (else-occupied s n) ∙ o
+  was s n o = sym (added-occupied p e listed s n) ∙ o
 
   ranged : (s : ℕ) → occupied q s ≡ true → entryInRange (slotAt q s .entry) ≡ true
   ranged =
@@ -119,7 +112,7 @@ module _ (p : Pool) (w : Wholes (p .slots)) (small : slotCount p ≤ capacity) (
       by-number (λ s. occupied q s ≡ false → slotAt q s ≡ free) r
       (λ o. clash taken o)
       (λ s n o.
-      let d : occupied p s ≡ false = sym (else-occupied s n) ∙ o in
+      let d : occupied p s ≡ false = sym (added-occupied p e listed s n) ∙ o in
       added-same p e listed s n (is-false (f s) (λ h. clash (listed-held p (e .txid) listed s h .1) d)) ∙ old .empty s d)
 
   -- ---- weights

@@ -5,14 +5,16 @@ use Prim.Native.Nat.{ℕ, zero, suc, _+_, _≤_, _<_}
 use native.Mathlib.Omega.{arith}
 use lib.Dec.{eqb, leb}
 use borrow.Author.Tests.{eq-eqb, ne-eqb, leb-true, le-leb}
+use Rattle.lists.proofs.Below.{count-without}
 use Rattle.lists.proofs.Bools.{and-both, cases}
 use Rattle.lists.proofs.Numbers.{by-number}
 use Rattle.lists.proofs.Ranges.{count-within}
 use Rattle.weights.specs.Weights.{virtualSize}
 use Rattle.pool_table.specs.declared.Limits.{Limits}
-use Rattle.pool_table.specs.Pool.{Pool, slotCount, weightAt}
+use Rattle.pool_table.specs.Pool.{Pool, slotCount, occupied, weightAt, entries}
 use Rattle.pool_table.specs.Links.{countOf, sumFrom, weightOf}
 use Rattle.pool_table.specs.WellFormed.{isWithin}
+use Rattle.pool_links.proofs.Mutual.{occupied-in}
 use Rattle.pool_clusters.proofs.Sums.{sum-none, sum-without}
 
 -- ---- sums
@@ -72,3 +74,16 @@ module _ (p q : Pool) (n : slotCount q ≡ slotCount p) where
       (by-number (λ s. cond (others s) (weightAt p s) 0 ≡ cond (g s) (weightAt q s) 0) r
       (rw (eq-eqb r r refl, and-false (f r), z) (cases (g r) (λ e. rw e) (λ e. rw e)))
       (λ s d. rw (ne-eqb s r (λ e. d (sym e)), and-true (f s), else s d, same s d)))))
+
+  -- and there is one entry more
+  pub entries-but : (r : ℕ) → occupied p r ≡ true → occupied q r ≡ false → ((s : ℕ) → (r ≡ s → ⊥) → occupied q s ≡ occupied p s)
+      → entries p ≡ suc (entries q)
+  unfolding entries
+  entries-but r o free same =
+      rw n
+      (count-without (occupied p) (occupied q) (slotCount p) 0 r (omega arith) (omega (arith, occupied-in p r o)) o
+      (λ s _ _.
+      by-number (λ s. occupied q s ≡ (occupied p s && not (eqb s r))) r
+      (rw (eq-eqb r r refl) (free ∙ sym (and-false (occupied p r))))
+      (λ s d. rw (ne-eqb s r (λ e. d (sym e))) (same s d ∙ sym (and-true (occupied p s))))
+      s))

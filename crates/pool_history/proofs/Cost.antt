@@ -2,10 +2,10 @@
 use mathlib.Core.Path.{_≡_, refl, sym, ap, _∙_}
 use mathlib.Core.Bool.{Bool, true, false, cond}
 use mathlib.Core.List.{List}
-use Prim.Native.Nat.{ℕ}
+use Prim.Native.Nat.{ℕ, _<_}
 use native.Mathlib.Omega.{arith}
 use lib.Dec.{eqb}
-use borrow.Author.Tests.{ne-eqb}
+use borrow.Author.Tests.{eq-eqb, ne-eqb}
 use Rattle.lists.proofs.Bools.{clash, cond-where}
 use Rattle.txset.specs.Sets.{hasIn}
 use Rattle.weights.specs.declared.RawWeight.{RawWeight}
@@ -18,7 +18,7 @@ use Rattle.pool_table.specs.Links.{sideOf}
 use Rattle.pool_table.specs.WellFormed.{sound}
 use Rattle.pool_table.proofs.Theorems.{Wholes}
 use Rattle.pool_rules.specs.Module8.{withSlots, costSet}
-use Rattle.pool_rules.proofs.Pools.{count-with}
+use Rattle.pool_rules.proofs.Pools.{count-with, slot-with}
 use Rattle.pool_history.proofs.Plain.{names, Plain, sound-plain, plain-sound}
 use Rattle.pool_history.proofs.Compared.{weight-same}
 use Rattle.pool_history.proofs.Fewer.{Fewer, fewer-acyclic, fewer-within}
@@ -59,18 +59,23 @@ module _ (p : Pool) (r c : ℕ) where
       same x Parents = refl
       same x Children = refl
 
+  -- it is set
+  pub cost-here : r < slotCount p → slotAt (costSet p r c) r .entry ≡ withCost c (slotAt p r .entry)
+  unfolding costSet
+  cost-here l = ap (λ (x : Slot). x .entry) (slot-with p _ _ r l) ∙ rw (eq-eqb r r refl)
+
+  pub cost-names : (side : Side) (a b : ℕ) → names (costSet p r c) side a b ≡ names p side a b
+  cost-names side a b = ap (λ (ws : List ℕ). hasIn ws b) (cost-slot a .links side)
+
+  pub cost-occupied : (s : ℕ) → occupied (costSet p r c) s ≡ occupied p s
+  cost-occupied s = same-occupied (slotAt (costSet p r c) s) (slotAt p s) (cost-slot s .weight)
+
 module _ (p : Pool) (w : Wholes (p .slots)) (good : sound p ≡ true) (r c : ℕ) (o : occupied p r ≡ true) where
   abbrev q : Pool
   q = costSet p r c
 
   old : Plain p
   old = sound-plain p w good
-
-  same-names : (side : Side) (a b : ℕ) → names q side a b ≡ names p side a b
-  same-names side a b = ap (λ (ws : List ℕ). hasIn ws b) (cost-slot p r c a .links side)
-
-  same-there : (s : ℕ) → occupied q s ≡ occupied p s
-  same-there s = same-occupied (slotAt q s) (slotAt p s) (cost-slot p r c s .weight)
 
   same-weight : (s : ℕ) → weightAt q s ≡ weightAt p s
   same-weight s = ap (λ (x : RawWeight). x .0) (cost-slot p r c s .weight)
@@ -85,7 +90,7 @@ module _ (p : Pool) (w : Wholes (p .slots)) (good : sound p ≡ true) (r c : ℕ
       record {
         limits = refl;
         count = cost-count p r c;
-        named = λ side a b e. sym (same-names side a b) ∙ e;
+        named = λ side a b e. sym (cost-names p r c side a b) ∙ e;
         weight = λ s. omega (arith, same-weight s);
       }
 
@@ -95,15 +100,16 @@ module _ (p : Pool) (w : Wholes (p .slots)) (good : sound p ≡ true) (r c : ℕ
       plain-sound
       (record {
         limits = old .limits;
-        numbers = λ s e. same-range s ∙ old .numbers s (sym (same-there s) ∙ e);
+        numbers = λ s e. same-range s ∙ old .numbers s (sym (cost-occupied p r c s) ∙ e);
         distinct = λ a b d e z.
-            old .distinct a b (sym (same-there a) ∙ d) (sym (same-there b) ∙ e) (sym (cost-slot p r c a .txid) ∙ z ∙ cost-slot p r c b .txid);
+            old .distinct a b (sym (cost-occupied p r c a) ∙ d) (sym (cost-occupied p r c b) ∙ e)
+            (sym (cost-slot p r c a .txid) ∙ z ∙ cost-slot p r c b .txid);
         total = old .total ∙ sym (weight-same p q (cost-count p r c) same-weight (λ s. true));
         empty = λ s e.
-            let f : occupied p s ≡ false = sym (same-there s) ∙ e in
+            let f : occupied p s ≡ false = sym (cost-occupied p r c s) ∙ e in
             cost-else p r c s (λ z. clash (ap (occupied p) (sym z) ∙ o) f) ∙ old .empty s f;
-        links = λ a b. same-names Parents a b ∙ old .links a b ∙ sym (same-names Children b a);
-        named = λ side a b e. same-there b ∙ old .named side a b (sym (same-names side a b) ∙ e);
+        links = λ a b. cost-names p r c Parents a b ∙ old .links a b ∙ sym (cost-names p r c Children b a);
+        named = λ side a b e. cost-occupied p r c b ∙ old .named side a b (sym (cost-names p r c side a b) ∙ e);
         acyclic = fewer-acyclic old fewer;
-        within = λ s e. fewer-within old fewer s (sym (same-there s) ∙ e);
+        within = λ s e. fewer-within old fewer s (sym (cost-occupied p r c s) ∙ e);
       })

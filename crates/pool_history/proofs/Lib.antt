@@ -10,4 +10,11 @@ pub mod Newcomer
 pub mod Added
 pub mod Kept
 pub mod Answers
-pub mod Theorems
+pub mod Steps
+pub mod Places
+pub mod Account
+pub mod AccountLess
+pub mod AccountMore
+pub mod Fitting
+pub mod Standing
+pub mod Follows

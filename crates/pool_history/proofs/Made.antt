@@ -21,11 +21,11 @@ use Rattle.pool_history.proofs.Compared.{weightless}
 
 module _ (l : Limits) (n : ℕ) where
   -- no slot is occupied, and none names another
-  made-free : (s : ℕ) → occupied (made l n) s ≡ false
+  pub made-free : (s : ℕ) → occupied (made l n) s ≡ false
   unfolding isOccupied
   made-free s = ap isOccupied (made-at l n s)
 
-  made-names : (side : Side) (a b : ℕ) → names (made l n) side a b ≡ false
+  pub made-names : (side : Side) (a b : ℕ) → names (made l n) side a b ≡ false
   made-names side a b = ap (λ (x : Slot). hasIn (sideOf side x) b) (made-at l n a) ∙ free-names side b
 
   no-chain : (a b : ℕ) → Way (isParent (made l n)) a b → ⊥

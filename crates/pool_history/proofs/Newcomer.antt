@@ -1,14 +1,14 @@
 -- The pool that add leaves, slot by slot: the newcomer's entry and links, and what the others keep. Assumes nothing.
-use mathlib.Core.Path.{_≡_, refl, sym, ap₂, _∙_}
-use mathlib.Core.Bool.{Bool, true, false, _&&_, _||_, or-false}
+use mathlib.Core.Path.{_≡_, refl, sym, ap, ap₂, _∙_}
+use mathlib.Core.Bool.{Bool, true, false, not, _&&_, _||_, or-false}
 use mathlib.Core.Logic.{⊎-elim}
 use mathlib.Core.List.{List}
 use Prim.Native.Nat.{ℕ, _≤_, _<_}
 use native.Mathlib.Omega.{arith}
-use lib.Dec.{eqb}
-use borrow.Author.Tests.{eq-eqb, ne-eqb}
+use lib.Dec.{eqb, leb}
+use borrow.Author.Tests.{eq-eqb, ne-eqb, leb-true}
 use Rattle.lists.proofs.Below.{any-at}
-use Rattle.lists.proofs.Bools.{clash, cases, is-false}
+use Rattle.lists.proofs.Bools.{clash, cases, and-left, and-right, is-false}
 use Rattle.lists.proofs.Numbers.{lt-or-ge, by-number}
 use Rattle.txset.specs.Sets.{hasIn}
 use Rattle.slotsets.specs.SlotSets.{capacity, none, setOf}
@@ -17,15 +17,16 @@ use Rattle.txids.specs.declared.Txid.{Txid}
 use Rattle.txids.proofs.Theorems.{equal-same}
 use Rattle.pool_table.specs.declared.Entry.{Entry}
 use Rattle.pool_table.specs.declared.Side.the-variants.{Parents, Children}
-use Rattle.pool_table.specs.Pool.{Pool, free, slotAt, slotCount, occupied}
+use Rattle.pool_table.specs.Pool.{Slot, Pool, free, slotAt, slotCount, isOccupied, occupied}
 use Rattle.pool_table.specs.Changes.{withEntry, withLinks}
+use Rattle.pool_table.specs.Ranges.{entryInRange}
 use Rattle.pool_table.proofs.Theorems.{Wholes}
 use Rattle.pool_rules.specs.Module8.{holds, isIn, isFull, lowestFree, isListed, added}
 use Rattle.pool_rules.proofs.Finds.{full-past, lowest-is-free}
 use Rattle.pool_rules.proofs.Listed.{listed-held}
 use Rattle.pool_rules.proofs.Pools.{count-with, slot-with}
 use Rattle.pool_history.proofs.Plain.{names, Plain}
-use Rattle.pool_history.proofs.Slots.{each-slot, has-plus, has-set}
+use Rattle.pool_history.proofs.Slots.{each-slot, same-occupied, has-plus, has-set}
 
 -- an entry with a txid that is not in the pool
 pub not-held : (p : Pool) (t : Txid) → isIn p t ≡ false → (s : ℕ) → s < slotCount p → occupied p s ≡ true → slotAt p s .entry .txid ≡ t → ⊥
@@ -58,6 +59,9 @@ module _ (p : Pool) (e : Entry) (listed : List ℕ) where
       (λ s n. rw (ne-eqb s r (λ z. n (sym z))) (cases (f s) (λ d. rw d) (λ d. rw d)))
       (λ s _ n. refl)
 
+  pub added-occupied : (s : ℕ) → (lowestFree p ≡ s → ⊥) → occupied (added p e listed) s ≡ occupied p s
+  added-occupied s n = same-occupied (slotAt (added p e listed) s) (slotAt p s) (ap (λ (x : Entry). x .weight) (added-else s n))
+
   pub added-same : (s : ℕ) → (lowestFree p ≡ s → ⊥) → isListed p (e .txid) listed s ≡ false → slotAt (added p e listed) s ≡ slotAt p s
   unfolding added
   added-same = each-slot p _ _ (λ s x y. (r ≡ s → ⊥) → f s ≡ false → y ≡ x) (λ s n d. rw (ne-eqb s r (λ z. n (sym z)), d)) (λ s _ n d. refl)
@@ -77,6 +81,16 @@ module _ (p : Pool) (e : Entry) (listed : List ℕ) where
     pub added-here : slotAt (added p e listed) (lowestFree p) ≡ withLinks (setOf (isListed p (e .txid) listed)) none (withEntry e free)
     unfolding added
     added-here = slot-with p _ _ r there ∙ rw (eq-eqb r r refl)
+
+    pub added-own : slotAt (added p e listed) (lowestFree p) .entry ≡ e
+    added-own = ap (λ (x : Slot). x .entry) added-here
+
+    pub added-there : entryInRange e ≡ true → occupied (added p e listed) (lowestFree p) ≡ true
+    unfolding isOccupied entryInRange
+    added-there ranged =
+        let h = and-right (leb (e .fee) 2100000000000000) (leb 1 (e .weight .0) && leb (e .weight .0) 4000000) ranged in
+        let l : 1 ≤ e .weight .0 = leb-true 1 (e .weight .0) (and-left (leb 1 (e .weight .0)) (leb (e .weight .0) 4000000) h) in
+        rw added-own (ap not (ne-eqb (e .weight .0) 0 (λ z. omega arith)))
 
     -- no listed parent stands in the free slot
     pub parent-else : isListed p (e .txid) listed (lowestFree p) ≡ false

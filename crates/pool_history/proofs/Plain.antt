@@ -24,7 +24,8 @@ use Rattle.pool_table.specs.Pool.{Slot, Pool, free, slotAt, slotCount, occupied
 use Rattle.pool_table.specs.Words.{slotWords}
 use Rattle.pool_table.specs.Ranges.{limitsInRange, entryInRange}
 use Rattle.pool_table.specs.Links.{sideOf, isParent, isChild, inCluster, weightOf}
-use Rattle.pool_table.specs.WellFormed.{numbersInRange, isTwin, txidsDistinct, totalIsSum, freeZeroed, isAnswered, linksMutual, acyclic, isWithin, clustersWithin, sound}
+use Rattle.pool_table.specs.WellFormed.{numbersInRange, isTwin, txidsDistinct, totalIsSum, freeZeroed, isAnswered, linksMutual, acyclic, isWithin}
+use Rattle.pool_table.specs.WellFormed.{clustersWithin, sound}
 use Rattle.pool_table.proofs.Rows.{slot-past, length-side, zeroed-free}
 use Rattle.pool_table.proofs.Theorems.{Wholes}
 use Rattle.pool_links.proofs.Mutual.{parent-parts, occupied-in}

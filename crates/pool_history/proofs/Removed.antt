@@ -1,7 +1,7 @@
 -- A sound pool without an entry is sound: links and clusters are parts of what they were. Assumes nothing.
 use mathlib.Core.Path.{_≡_, refl, sym, ap, ap₂, _∙_}
 use mathlib.Core.Bool.{Bool, true, false, cond, not, _&&_, and-false, and-comm}
-use Prim.Native.Nat.{ℕ, _≤_}
+use Prim.Native.Nat.{ℕ, _+_, _≤_, _<_}
 use native.Mathlib.Omega.{arith}
 use lib.Dec.{eqb}
 use borrow.Author.Tests.{ne-eqb, eq-eqb, eqb-false, not-true}
@@ -49,6 +49,20 @@ module _ (p : Pool) (r : ℕ) where
       (λ s n. ap (λ (b : Bool). cond b free (unlinked r (slotAt p s)) .entry) (ne-eqb s r (λ e. n (sym e))))
       (λ s _ n. refl)
 
+  pub removed-gone : occupied (removed p r) r ≡ false
+  unfolding isOccupied
+  removed-gone = ap isOccupied removed-here
+
+  pub removed-occupied : (s : ℕ) → (r ≡ s → ⊥) → occupied (removed p r) s ≡ occupied p s
+  removed-occupied s n = same-occupied (slotAt (removed p r) s) (slotAt p s) (ap (λ (e : Entry). e .weight) (removed-else s n))
+
+  -- all weighed as much more as was there
+  pub removed-weight : r < slotCount p → weightOf p (λ s. true) ≡ weightAt p r + weightOf (removed p r) (λ s. true)
+  removed-weight l =
+      weight-but p (removed p r) removed-count r l (ap (λ (x : Slot). x .entry .weight .0) removed-here)
+      (λ s n. ap (λ (e : Entry). e .weight .0) (removed-else s n))
+      (λ s. true) (λ s. true) refl (λ s _. refl)
+
   -- a free slot stays free
   unlinked-free : unlinked r free ≡ free
   unlinked-free =
@@ -86,19 +100,12 @@ module _ (p : Pool) (w : Wholes (p .slots)) (good : sound p ≡ true) (r : ℕ) 
   old : Plain p
   old = sound-plain p w good
 
-  freed : occupied q r ≡ false
-  unfolding isOccupied
-  freed = ap isOccupied (removed-here p r)
-
-  else-occupied : (s : ℕ) → (r ≡ s → ⊥) → occupied q s ≡ occupied p s
-  else-occupied s n = same-occupied (slotAt q s) (slotAt p s) (ap (λ (e : Entry). e .weight) (removed-else p r s n))
-
   -- who is still there, is not r
   other : (s : ℕ) → occupied q s ≡ true → r ≡ s → ⊥
-  other s e z = clash e (ap (occupied q) (sym z) ∙ freed)
+  other s e z = clash e (ap (occupied q) (sym z) ∙ removed-gone p r)
 
   was : (s : ℕ) → occupied q s ≡ true → occupied p s ≡ true
-  was s e = sym (else-occupied s (other s e)) ∙ e
+  was s e = sym (removed-occupied p r s (other s e)) ∙ e
 
   stood : (side : Side) (a b : ℕ) → names q side a b ≡ true → (names p side a b ≡ true) × ((not (eqb a r) && not (eqb b r)) ≡ true)
   stood side a b e = and-both (names p side a b) (not (eqb a r) && not (eqb b r)) (sym (removed-names p r w side a b) ∙ e)
@@ -107,7 +114,7 @@ module _ (p : Pool) (w : Wholes (p .slots)) (good : sound p ≡ true) (r : ℕ) 
   named side a b e =
       let u = stood side a b e in
       let n : b ≡ r → ⊥ = eqb-false b r (not-true (eqb b r) (and-right (not (eqb a r)) (not (eqb b r)) (u .1))) in
-      else-occupied b (λ z. n (sym z)) ∙ old .named side a b (u .0)
+      removed-occupied p r b (λ z. n (sym z)) ∙ old .named side a b (u .0)
 
   fewer : Fewer p q
   unfolding removed withSlots
@@ -124,14 +131,7 @@ module _ (p : Pool) (w : Wholes (p .slots)) (good : sound p ≡ true) (r : ℕ) 
 
   total : q .total ≡ weightOf q (λ s. true)
   unfolding removed withSlots
-  total =
-      omega (
-        arith,
-        old .total,
-        weight-but p q (removed-count p r) r (occupied-in p r o) (ap (λ (x : Slot). x .entry .weight .0) (removed-here p r))
-            (λ s n. ap (λ (e : Entry). e .weight .0) (removed-else p r s n))
-            (λ s. true) (λ s. true) refl (λ s _. refl),
-      )
+  total = omega (arith, old .total, removed-weight p r (occupied-in p r o))
 
   pub sound-removed : sound (removed p r) ≡ true
   unfolding removed withSlots
@@ -147,7 +147,7 @@ module _ (p : Pool) (w : Wholes (p .slots)) (good : sound p ≡ true) (r : ℕ) 
         empty =
             by-number (λ s. occupied q s ≡ false → slotAt q s ≡ free) r
             (λ _. removed-here p r)
-            (λ s n e. removed-free p r s (old .empty s (sym (else-occupied s n) ∙ e)));
+            (λ s n e. removed-free p r s (old .empty s (sym (removed-occupied p r s n) ∙ e)));
         links = λ a b.
             removed-names p r w Parents a b ∙ ap₂ _&&_ (old .links a b) (and-comm (not (eqb a r)) (not (eqb b r)))
             ∙ sym (removed-names p r w Children b a);

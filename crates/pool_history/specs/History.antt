@@ -2,13 +2,14 @@
 -- table that it leaves: each by the definition that stands in the call's own contract, so that nothing lies between the two. Assumes nothing.
 use Prim.Native.Nat.{ℕ}
 use mathlib.Core.Path.{_≡_}
-use mathlib.Core.Bool.{Bool}
+use mathlib.Core.Bool.{Bool, true}
 use mathlib.Core.List.{List, [], _∷_}
 use lib.Dec.{eqb}
 use Rattle.txids.specs.declared.Txid.{Txid}
 use Rattle.pool_table.specs.declared.Limits.{Limits}
 use Rattle.pool_table.specs.declared.Entry.{Entry}
-use Rattle.pool_rules.specs.Calls.{makeAnswer, afterMake, addReply, afterAdd, namedReply, afterRemove, afterSetCost, clearAnswer, afterClear, totalsReply}
+use Rattle.pool_rules.specs.Calls.{makeAnswer, afterMake, addReply, afterAdd, namedReply, afterRemove, afterSetCost, clearAnswer, afterClear}
+use Rattle.pool_rules.specs.Calls.{totalsReply}
 use Rattle.template_rules.specs.Filling.{Settings}
 use Rattle.template_rules.specs.Calls.{templateReply}
 
@@ -52,7 +53,7 @@ pub record Event : Type 0 where
 -- the calls of a sequence as they were answered, and the table then, one call after the other. The latest event comes first
 pub data History (lent : List ℕ) : List Event → List ℕ → Type 0 where
   -- "Making a pool empties a lent table": a history begins with a making that succeeds, whatever the table held
-  begun : (l : Limits) → makeAnswer lent l ≡ 0 → History lent (record { call = make l; done = eqb (makeAnswer lent l) 0 } ∷ []) (afterMake lent l)
+  begun : (l : Limits) → makeAnswer lent l ≡ 0 → History lent (record { call = make l; done = true } ∷ []) (afterMake lent l)
   -- and goes on with any call, whatever it answers
   next : {es : List Event} {t : List ℕ} (c : Call) → History lent es t
       → History lent (record { call = c; done = eqb (answerTo t c) 0 } ∷ es) (tableAfter t c)

@@ -1,16 +1,18 @@
 -- Demand 3's last sentence: "Which entries and links stand, and what each entry holds, follows from the calls by 01's module 8." What
 -- stands after a list of events, the latest first: by the calls that succeeded alone, without any pool. Assumes nothing.
-use Prim.Native.Nat.{ℕ, _+_, _*_}
+use Prim.Native.Nat.{ℕ, _+_, _-_, _*_}
 use mathlib.Core.Bool.{Bool, false, cond, not, _&&_, _||_}
 use mathlib.Core.List.{List, [], _∷_}
 use lib.Dec.{eqb}
 use Rattle.lists.specs.Below.{anyFrom, firstFrom}
 use Rattle.txids.specs.declared.Txid.{Txid}
 use Rattle.txids.specs.Txids.{sameTxid, txidAt, listedCount}
+use Rattle.slotsets.specs.SlotSets.{setOf}
 use Rattle.pool_table.specs.declared.Limits.{Limits}
 use Rattle.pool_table.specs.declared.Entry.{Entry}
-use Rattle.pool_table.specs.Pool.{noEntry}
-use Rattle.pool_table.specs.Changes.{withCost}
+use Rattle.pool_table.specs.Pool.{Slot, Pool, noTxid, noEntry, free}
+use Rattle.pool_table.specs.Changes.{withCost, made}
+use Rattle.pool_rules.specs.Module8.{withSlots}
 use Rattle.pool_history.specs.History.{Call, make, add, remove, setCost, clear, totals, template, Event}
 
 -- ---- which entries stand
@@ -52,21 +54,21 @@ unfoldable pub lists : List ℕ → Txid → Bool
 lists listed x = anyFrom (λ j. sameTxid (txidAt listed (32 * j)) x) (listedCount listed) 0
 
 -- a link from x to its parent y: x's add listed y, which stood then and was not x itself, and "a link stands until one of its ends is removed or
--- the pool is cleared or made anew"
-abbrev pub linkedAfter : Call → List Event → Txid → Txid → Bool → Bool
-linkedAfter (make l) es x y before = false
-linkedAfter (add e listed) es x y before = cond (sameTxid (e .txid) x) (lists listed y && (stands es y && not (sameTxid x y))) before
-linkedAfter (remove z) es x y before = not (sameTxid z x) && (not (sameTxid z y) && before)
-linkedAfter (setCost z c) es x y before = before
-linkedAfter clear es x y before = false
-linkedAfter totals es x y before = before
-linkedAfter (template w room) es x y before = before
+-- the pool is cleared or made anew". `stood` is what stood before the call
+abbrev pub linkedAfter : Call → (Txid → Bool) → Txid → Txid → Bool → Bool
+linkedAfter (make l) stood x y before = false
+linkedAfter (add e listed) stood x y before = cond (sameTxid (e .txid) x) (lists listed y && (stood y && not (sameTxid x y))) before
+linkedAfter (remove z) stood x y before = not (sameTxid z x) && (not (sameTxid z y) && before)
+linkedAfter (setCost z c) stood x y before = before
+linkedAfter clear stood x y before = false
+linkedAfter totals stood x y before = before
+linkedAfter (template w room) stood x y before = before
 
 unfoldable pub linked : List Event → Txid → Txid → Bool
 linked [] x y = false
-linked (e ∷ es) x y = cond (e .done) (linkedAfter (e .call) es x y (linked es x y)) (linked es x y)
+linked (e ∷ es) x y = cond (e .done) (linkedAfter (e .call) (stands es) x y (linked es x y)) (linked es x y)
 
--- ---- how many, and what they weigh: "all weights added less all removed, since the last clear or making"
+-- ---- how many, and what they weigh: "The total weight equals all weights added less all removed, since the last clear or making"
 
 -- the sum, over the adds since then, of what w says of an entry
 abbrev pub addedAfter : (Entry → ℕ) → Call → ℕ → ℕ
@@ -78,33 +80,47 @@ addedAfter w clear before = 0
 addedAfter w totals before = before
 addedAfter w (template u room) before = before
 
-unfoldable pub added : (Entry → ℕ) → List Event → ℕ
-added w [] = 0
-added w (e ∷ es) = cond (e .done) (addedAfter w (e .call) (added w es)) (added w es)
+unfoldable pub allAdded : (Entry → ℕ) → List Event → ℕ
+allAdded w [] = 0
+allAdded w (e ∷ es) = cond (e .done) (addedAfter w (e .call) (allAdded w es)) (allAdded w es)
 
--- the same over the removes, of the entry that was held
-abbrev pub removedAfter : (Entry → ℕ) → Call → List Event → ℕ → ℕ
-removedAfter w (make l) es before = 0
-removedAfter w (add e listed) es before = before
-removedAfter w (remove y) es before = w (held es y) + before
-removedAfter w (setCost y c) es before = before
-removedAfter w clear es before = 0
-removedAfter w totals es before = before
-removedAfter w (template u room) es before = before
+-- the same over the removes, of the entry that was held before
+abbrev pub removedAfter : (Entry → ℕ) → Call → (Txid → Entry) → ℕ → ℕ
+removedAfter w (make l) was before = 0
+removedAfter w (add e listed) was before = before
+removedAfter w (remove y) was before = w (was y) + before
+removedAfter w (setCost y c) was before = before
+removedAfter w clear was before = 0
+removedAfter w totals was before = before
+removedAfter w (template u room) was before = before
 
-unfoldable pub removed : (Entry → ℕ) → List Event → ℕ
-removed w [] = 0
-removed w (e ∷ es) = cond (e .done) (removedAfter w (e .call) es (removed w es)) (removed w es)
+unfoldable pub allRemoved : (Entry → ℕ) → List Event → ℕ
+allRemoved w [] = 0
+allRemoved w (e ∷ es) = cond (e .done) (removedAfter w (e .call) (held es) (allRemoved w es)) (allRemoved w es)
+
+-- each entry weighs its raw weight, and counts as one. That no more is removed than was added is a theorem
+abbrev pub weightOfEntry : Entry → ℕ
+weightOfEntry e = e .weight .0
+
+abbrev pub oneEach : Entry → ℕ
+oneEach e = 1
+
+unfoldable pub totalWeight : List Event → ℕ
+totalWeight es = allAdded weightOfEntry es - allRemoved weightOfEntry es
+
+unfoldable pub howMany : List Event → ℕ
+howMany es = allAdded oneEach es - allRemoved oneEach es
 
 -- ---- where they stand: "Adding takes the lowest free slot; a freed slot is free." The pool has n slots
 
--- the slot of each txid, and which slots are in use
+-- the slot of each txid, which slots are in use, and whose each of these is
 pub record Board : Type 0 where
   pub place : Txid → ℕ
   pub used : ℕ → Bool
+  pub who : ℕ → Txid
 
 abbrev pub emptyBoard : Board
-emptyBoard = record { place = λ x. 0; used = λ s. false }
+emptyBoard = record { place = λ x. 0; used = λ s. false; who = λ s. noTxid }
 
 unfoldable pub lowestUnused : ℕ → Board → ℕ
 lowestUnused n b = firstFrom (λ s. not (b .used s)) n 0
@@ -115,8 +131,9 @@ boardAfter n (add e listed) b =
     record {
       place = λ x. cond (sameTxid (e .txid) x) (lowestUnused n b) (b .place x);
       used = λ s. eqb s (lowestUnused n b) || b .used s;
+      who = λ s. cond (eqb s (lowestUnused n b)) (e .txid) (b .who s);
     }
-boardAfter n (remove y) b = record { place = b .place; used = λ s. not (eqb s (b .place y)) && b .used s }
+boardAfter n (remove y) b = record { place = b .place; used = λ s. not (eqb s (b .place y)) && b .used s; who = b .who }
 boardAfter n (setCost y c) b = b
 boardAfter n clear b = emptyBoard
 boardAfter n totals b = b
@@ -126,7 +143,7 @@ unfoldable pub board : ℕ → List Event → Board
 board n [] = emptyBoard
 board n (e ∷ es) = cond (e .done) (boardAfter n (e .call) (board n es)) (board n es)
 
--- ---- the limits: "kept until it is made anew"
+-- ---- the limits: "stores both limits and the bytes per sigop, kept until it is made anew"
 
 abbrev pub limitsAfter : Call → Limits → Limits
 limitsAfter (make l) before = l
@@ -137,6 +154,23 @@ limitsAfter clear before = before
 limitsAfter totals before = before
 limitsAfter (template w room) before = before
 
-unfoldable pub limits : List Event → Limits
-limits [] = record { count = 0; size = 0; «bytes_per_sigop» = 0 }
-limits (e ∷ es) = cond (e .done) (limitsAfter (e .call) (limits es)) (limits es)
+unfoldable pub limitsNow : List Event → Limits
+limitsNow [] = record { count = 0; size = 0; «bytes_per_sigop» = 0 }
+limitsNow (e ∷ es) = cond (e .done) (limitsAfter (e .call) (limitsNow es)) (limitsNow es)
+
+-- ---- all of it: the pool that stands
+
+-- a slot in use holds what its txid holds and names the slots of the txids to which it is linked, parents and children; every other is free
+unfoldable pub standingAt : ℕ → List Event → ℕ → Slot
+standingAt n es s =
+    let b = board n es in
+    cond (b .used s)
+    (record {
+      entry = held es (b .who s);
+      parents = setOf (λ i. b .used i && linked es (b .who s) (b .who i));
+      children = setOf (λ i. b .used i && linked es (b .who i) (b .who s));
+    })
+    free
+
+unfoldable pub standing : ℕ → List Event → Pool
+standing n es = withSlots (made (limitsNow es) n) (totalWeight es) (λ s x. standingAt n es s)

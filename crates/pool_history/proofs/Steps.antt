@@ -1,15 +1,16 @@
--- Demand 3's sentence about a pool, part by part, and that every call keeps it: "So no later call finds the pool ill-formed". Assumes nothing.
+-- One call: that it keeps demand 3's sentence about a pool, and which pool its table then means. Assumes nothing.
 use mathlib.Core.Path.{_≡_, refl, sym, ap, _∙_}
-use mathlib.Core.Bool.{true}
+use mathlib.Core.Bool.{true, false}
 use mathlib.Core.List.{List, [], _∷_}
 use Prim.Native.Nat.{ℕ, _≤_}
 use native.Mathlib.Omega.{arith}
-use lib.Dec.{leb}
+use lib.Dec.{eqb, leb}
 use lib.ListN.{length}
 use borrow.Author.Tests.{leb-true}
 use Rattle.lists.proofs.Bools.{and-both}
-use Rattle.refusals.specs.Refusals.{answerOf, keptUnless}
-use Rattle.refusals.proofs.Lines.{writes}
+use Rattle.refusals.specs.declared.Reply.{Reply}
+use Rattle.refusals.specs.Refusals.{Line, answerOf, keptUnless, refusal}
+use Rattle.refusals.proofs.Lines.{keeps, writes, answered}
 use Rattle.txids.specs.declared.Txid.{Txid}
 use Rattle.weights.specs.Weights.{virtualSize}
 use Rattle.ways.specs.Ways.{Way}
@@ -25,11 +26,17 @@ use Rattle.pool_table.proofs.Pools.{whole-made}
 use Rattle.pool_table.proofs.Rows.{slot-count}
 use Rattle.pool_table.proofs.Theorems.{pool-table}
 use Rattle.pool_rules.specs.Module8.{slotOf, cleared, removed, costSet, added}
-use Rattle.pool_rules.specs.Calls.{makeRefusals, makeAnswer, afterMake, addRefusals, afterAdd, namedRefusals, afterRemove, afterSetCost, broken, afterClear}
+use Rattle.pool_rules.specs.declared.Placed.{Placed}
+use Rattle.pool_rules.specs.declared.Totals.{Totals}
+use Rattle.pool_rules.specs.Calls.{noSlot, noTotals, makeRefusals, makeAnswer, afterMake, addRefusals, addReply, afterAdd, namedRefusals, namedReply}
+use Rattle.pool_rules.specs.Calls.{afterRemove, afterSetCost, broken, clearAnswer, afterClear, totalsReply}
 use Rattle.pool_rules.proofs.Pools.{whole-pool, whole-added, whole-removed, whole-cost, whole-cleared}
+use Rattle.template_rules.specs.Calls.{templateRefusals, templateReply}
+use Rattle.pool_history.specs.History.{Call, make, add, remove, setCost, clear, totals, template, answerTo, tableAfter}
 use Rattle.pool_history.proofs.Plain.{parent-is, child-is}
 use Rattle.pool_history.proofs.Answers.{stays-or-new, after-kept, can-make, can-add, can-name, found-occupied}
-use Rattle.pool_history.proofs.Kept.{Kept, kept-plain, kept-made, kept-cleared, kept-cost, kept-removed, kept-added, some-slot, well-kept, kept-well}
+use Rattle.pool_history.proofs.Kept.{Kept, kept-plain, kept-made, kept-cleared, kept-cost, kept-removed, kept-added, some-slot, well-kept}
+use Rattle.pool_history.proofs.Kept.{kept-well}
 
 -- ---- what a pool is that every call keeps
 
@@ -139,3 +146,72 @@ module _ (t : List ℕ) where
   pool-after-clear =
       after-kept poolOf (broken t ∷ []) t (tableOf (cleared (poolOf t)))
       ∙ ap (keptUnless (broken t ∷ []) (poolOf t)) (pool-table (cleared (poolOf t)) (whole-cleared (poolOf t) (whole-pool t)))
+
+-- ---- any call
+
+either-way : {A : Type 0} (ls : List Line) (a : A) → a ≡ keptUnless ls a a
+either-way {A} ls a = stays-or-new (λ (b : A). a ≡ b) ls refl (λ _. refl)
+
+abbrev pub refusalsTo : List ℕ → Call → List Line
+refusalsTo t (make l) = makeRefusals t l
+refusalsTo t (add e listed) = addRefusals t e listed
+refusalsTo t (remove x) = namedRefusals t x
+refusalsTo t (setCost x c) = namedRefusals t x
+refusalsTo t clear = broken t ∷ []
+refusalsTo t totals = broken t ∷ []
+refusalsTo t (template w room) = templateRefusals t w room
+
+abbrev pub stepOf : Pool → Call → Pool
+stepOf p (make l) = made l (slotCount p)
+stepOf p (add e listed) = added p e listed
+stepOf p (remove x) = removed p (slotOf p x)
+stepOf p (setCost x c) = costSet p (slotOf p x) c
+stepOf p clear = cleared p
+stepOf p totals = p
+stepOf p (template w room) = p
+
+module _ (t : List ℕ) where
+  pub answer-is : (c : Call) → answerTo t c ≡ answerOf (refusalsTo t c)
+  unfolding makeAnswer addReply namedReply clearAnswer totalsReply templateReply
+  answer-is (make l) = refl
+  answer-is (add e listed) = answered (addRefusals t e listed) noSlot _ (λ (r : Placed). r .answer) refl (λ k. refl)
+  answer-is (remove x) = answered (namedRefusals t x) noSlot _ (λ (r : Placed). r .answer) refl (λ k. refl)
+  answer-is (setCost x c) = answered (namedRefusals t x) noSlot _ (λ (r : Placed). r .answer) refl (λ k. refl)
+  answer-is clear = refl
+  answer-is totals = answered (broken t ∷ []) noTotals _ (λ (r : Totals). r .answer) refl (λ k. refl)
+  answer-is (template w room) = answered (templateRefusals t w room) refusal _ (λ (r : Reply). r .answer) refl (λ k. refl)
+
+  pub well-after : wellFormed t ≡ true → (c : Call) → wellFormed (tableAfter t c) ≡ true
+  well-after h (make l) = after-make t h l
+  well-after h (add e listed) = after-add t h e listed
+  well-after h (remove x) = after-remove t h x
+  well-after h (setCost x c) = after-set-cost t h x c
+  well-after h clear = after-clear t h
+  well-after h totals = h
+  well-after h (template w room) = h
+
+  pub pool-after : (c : Call) → poolOf (tableAfter t c) ≡ keptUnless (refusalsTo t c) (poolOf t) (stepOf (poolOf t) c)
+  pool-after (make l) = pool-after-make t l
+  pool-after (add e listed) = pool-after-add t e listed
+  pool-after (remove x) = pool-after-remove t x
+  pool-after (setCost x c) = pool-after-set-cost t x c
+  pool-after clear = pool-after-clear t
+  pool-after totals = either-way (broken t ∷ []) (poolOf t)
+  pool-after (template w room) = either-way (templateRefusals t w room) (poolOf t)
+
+  lines-stay : (c : Call) → eqb (answerOf (refusalsTo t c)) 0 ≡ false → tableAfter t c ≡ t
+  unfolding afterMake afterAdd afterRemove afterSetCost afterClear
+  lines-stay (make l) e = sym (keeps t _ (record { answer = refl; number = e }))
+  lines-stay (add i listed) e = sym (keeps t _ (record { answer = refl; number = e }))
+  lines-stay (remove x) e = sym (keeps t _ (record { answer = refl; number = e }))
+  lines-stay (setCost x c) e = sym (keeps t _ (record { answer = refl; number = e }))
+  lines-stay clear e = sym (keeps t _ (record { answer = refl; number = e }))
+  lines-stay totals e = refl
+  lines-stay (template w room) e = refl
+
+  -- "A refusal .. all lent memory stays."
+  pub refused-stays : (c : Call) → eqb (answerTo t c) 0 ≡ false → tableAfter t c ≡ t
+  refused-stays c e = lines-stay c (ap (λ (k : ℕ). eqb k 0) (sym (answer-is c)) ∙ e)
+
+  pub done-pool : (c : Call) → answerTo t c ≡ 0 → poolOf (tableAfter t c) ≡ stepOf (poolOf t) c
+  done-pool c z = pool-after c ∙ sym (writes (poolOf t) (stepOf (poolOf t) c) (record { answer = sym (answer-is c) ∙ z }) refl)

@@ -1,0 +1,75 @@
+-- Where a txid stands in a pool whose txids are distinct: one slot, which a look-up finds. Assumes nothing.
+use mathlib.Core.Path.{_≡_, sym, ap, ap₂, _∙_}
+use mathlib.Core.Bool.{true, false, not, _&&_}
+use mathlib.Core.List.{List}
+use Prim.Native.Nat.{ℕ, _*_}
+use native.Mathlib.Omega.{arith}
+use lib.Dec.{eqb}
+use borrow.Author.Tests.{eq-eqb, eqb-true}
+use Rattle.lists.proofs.Below.{any-at, any-ext, first-has}
+use Rattle.lists.proofs.Bools.{cases, and-both, and-right, is-false, true-together}
+use Rattle.txids.specs.declared.Txid.{Txid}
+use Rattle.txids.specs.Txids.{sameTxid, txidAt, listedCount}
+use Rattle.txids.proofs.Theorems.{same-equal, equal-same}
+use Rattle.pool_table.specs.Pool.{Pool, slotAt, slotCount, occupied}
+use Rattle.pool_links.proofs.Mutual.{occupied-in}
+use Rattle.pool_rules.specs.Module8.{holds, isIn, slotOf, isPlaceOf, isListed}
+use Rattle.pool_history.specs.Standing.{lists}
+use Rattle.pool_history.proofs.Plain.{Plain}
+
+-- ---- one txid or another
+
+pub by-txid : (P : Txid → Type 0) (x y : Txid) → (x ≡ y → P y) → (sameTxid x y ≡ false → P y) → P y
+by-txid P x y same other = cases (sameTxid x y) (λ e. same (same-equal x y e)) other
+
+pub txids-flip : (x y : Txid) → sameTxid x y ≡ sameTxid y x
+txids-flip x y =
+    true-together (sameTxid x y) (sameTxid y x) (λ e. equal-same y x (sym (same-equal x y e))) (λ e. equal-same x y (sym (same-equal y x e)))
+
+pub txids-differ : (x y : Txid) → (x ≡ y → ⊥) → sameTxid x y ≡ false
+txids-differ x y n = is-false (sameTxid x y) (λ e. absurd (n (same-equal x y e)))
+
+-- ---- the entry with this txid is in slot s
+
+pub record At (p : Pool) (x : Txid) (s : ℕ) : Type 0 where
+  pub there : occupied p s ≡ true
+  pub named : slotAt p s .entry .txid ≡ x
+
+module _ (p : Pool) (x : Txid) where
+  pub in-at : isIn p x ≡ true → At p x (slotOf p x)
+  unfolding isIn slotOf holds
+  in-at h =
+      let s = slotOf p x in
+      let b = and-both (occupied p s) (sameTxid (slotAt p s .entry .txid) x) (first-has (holds p x) (slotCount p) 0 h) in
+      record { there = b .0; named = same-equal (slotAt p s .entry .txid) x (b .1) }
+
+  pub at-in : (s : ℕ) → At p x s → isIn p x ≡ true
+  unfolding isIn holds
+  at-in s h =
+      let l = occupied-in p s (h .there) in
+      any-at (holds p x) (slotCount p) 0 s (omega arith) (omega arith) (ap₂ _&&_ (h .there) (equal-same (slotAt p s .entry .txid) x (h .named)))
+
+module _ {p : Pool} (h : Plain p) where
+  pub at-one : {x : Txid} {s u : ℕ} → At p x s → At p x u → s ≡ u
+  at-one {x} {s} {u} a b = h .distinct s u (a .there) (b .there) (a .named ∙ sym (b .named))
+
+  pub at-slot : {x : Txid} {s : ℕ} → At p x s → slotOf p x ≡ s
+  at-slot {x} {s} a = at-one (in-at p x (at-in p x s a)) a
+
+  -- a listed txid that is not the own one stands where the listed one does
+  pub listed-at : (own : Txid) (listed : List ℕ) (y : Txid) (b : ℕ) → At p y b → sameTxid own y ≡ false → isListed p own listed b ≡ lists listed y
+  unfolding isListed isPlaceOf lists
+  listed-at own listed y b a n =
+      any-ext _ _ (listedCount listed) 0
+      (λ j _ _.
+      let t : Txid = txidAt listed (32 * j) in
+      true-together (isPlaceOf p own t b) (sameTxid t y)
+      (λ e.
+      let u = and-both (isIn p t) (eqb (slotOf p t) b) (and-right (not (sameTxid t own)) (isIn p t && eqb (slotOf p t) b) e) in
+      let i = in-at p t (u .0) in
+      let z : slotOf p t ≡ b = eqb-true (slotOf p t) b (u .1) in
+      equal-same t y (sym (i .named) ∙ ap (λ (s : ℕ). slotAt p s .entry .txid) z ∙ a .named))
+      (λ e.
+      let z : t ≡ y = same-equal t y e in
+      rw z
+      (ap₂ _&&_ (ap not (txids-flip y own ∙ n)) (ap₂ _&&_ (at-in p y b a) (eq-eqb (slotOf p y) b (at-slot a))))))
