@@ -4,14 +4,15 @@ use Prim.Native.Nat.{_<_}
 use native.Mathlib.Nat.{le-of-lt}
 use native.Mathlib.Omega.{arith}
 use mathlib.Core.Path.{_≡_, refl, sym, _∙_}
-use mathlib.Core.Bool.{Bool, true, false, cond}
+use mathlib.Core.Bool.{Bool, true, false, cond, not, _&&_, _||_}
 use lib.IntN.{ℤ, pos, negsuc}
 use lib.Signed.{ltZ}
 use borrow.Author.Tests.{le-ltb, ltb-true, ltb-false}
 use Rattle.lists.proofs.Bools.{cases, clash}
 use Rattle.feefrac.specs.declared.FeeFrac.{FeeFrac}
+use Rattle.feefrac.specs.declared.Ordering.{Ordering}
 use Rattle.feefrac.specs.declared.Ordering.the-variants.{Less, Equal, Greater}
-use Rattle.feefrac.specs.Rate.{higher, isGreater}
+use Rattle.feefrac.specs.Rate.{higher, rateOrder, thenBy, isGreater}
 use Rattle.feefrac.proofs.Signed.{Le, less-parts}
 use Rattle.feefrac.proofs.Order.{rate-above, rate-below, rate-same}
 use Rattle.feefrac.proofs.Higher.{higher-self, higher-one, above-least, least-above, least-least}
@@ -20,16 +21,38 @@ use Rattle.chunk_tests.specs.Tests.{feeOrder, paysOrder}
 abbrev pub paysMore : FeeFrac → FeeFrac → Bool
 paysMore a b = isGreater (paysOrder a b)
 
+-- ---- an order by two tests: whether the first is above, and else whether the second is
+
+abbrev pub byTests : Bool → Bool → Ordering
+byTests s t = cond s Greater (cond t Less Equal)
+
+pub tests-greater : (s t : Bool) → isGreater (byTests s t) ≡ s
+tests-greater true t = refl
+tests-greater false true = refl
+tests-greater false false = refl
+
+-- and then a second order
+pub tests-then : (s t : Bool) (o : Ordering) → isGreater (thenBy (byTests s t) o) ≡ (s || (not t && isGreater o))
+tests-then true t o = refl
+tests-then false true o = refl
+tests-then false false o = refl
+
+pub pays-tests : (a b : FeeFrac) → paysOrder a b ≡ byTests (paysMore a b) (paysMore b a)
+unfolding paysOrder rateOrder feeOrder
+pays-tests a b = go (higher a b) (higher b a) (ltZ (b .fee) (a .fee)) (ltZ (a .fee) (b .fee))
+  where
+    go : (s t u v : Bool) → let o = thenBy (byTests s t) (byTests u v) in o ≡ byTests (isGreater o) (isGreater (thenBy (byTests t s) (byTests v u)))
+    go true t u v = refl
+    go false true u v = refl
+    go false false true v = refl
+    go false false false true = refl
+    go false false false false = refl
+
 -- ---- as the code asks
 
 fee-greater : (f g : ℤ) → isGreater (feeOrder f g) ≡ ltZ g f
 unfolding feeOrder
-fee-greater f g = picked (ltZ g f) (ltZ f g)
-  where
-    picked : (s t : Bool) → isGreater (cond s Greater (cond t Less Equal)) ≡ s
-    picked true t = refl
-    picked false true = refl
-    picked false false = refl
+fee-greater f g = tests-greater (ltZ g f) (ltZ f g)
 
 module _ (a b : FeeFrac) where
   pub pays-above : higher a b ≡ true → paysMore a b ≡ true
