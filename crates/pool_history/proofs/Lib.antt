@@ -18,3 +18,6 @@ pub mod AccountMore
 pub mod Fitting
 pub mod Standing
 pub mod Follows
+pub mod Replies
+pub mod Others
+pub mod Theorems

@@ -22,6 +22,10 @@ use Rattle.pool_history.proofs.Places.{At}
 use Rattle.pool_history.proofs.Account.{account, Right}
 use Rattle.pool_history.proofs.Fitting.{Fitting}
 
+pub standing-limits : (n : ℕ) (es : List Event) → standing n es .limits ≡ limitsNow es
+unfolding standing withSlots made
+standing-limits n es = refl
+
 module _ {n : ℕ} {p : Pool} (es : List Event) (h : Right n (account n es) p) (plain : Plain p) (w : Wholes (p .slots))
     (fit : (s : ℕ) → Fitting (slotAt p s)) where
   abbrev who : ℕ → Txid

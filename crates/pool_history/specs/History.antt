@@ -5,9 +5,11 @@ use mathlib.Core.Path.{_≡_}
 use mathlib.Core.Bool.{Bool, true}
 use mathlib.Core.List.{List, [], _∷_}
 use lib.Dec.{eqb}
+use lib.ListN.{length}
 use Rattle.txids.specs.declared.Txid.{Txid}
 use Rattle.pool_table.specs.declared.Limits.{Limits}
 use Rattle.pool_table.specs.declared.Entry.{Entry}
+use Rattle.pool_table.specs.Words.{slotsIn}
 use Rattle.pool_rules.specs.Calls.{makeAnswer, afterMake, addReply, afterAdd, namedReply, afterRemove, afterSetCost, clearAnswer, afterClear}
 use Rattle.pool_rules.specs.Calls.{totalsReply}
 use Rattle.template_rules.specs.Filling.{Settings}
@@ -44,6 +46,10 @@ tableAfter t totals = t
 tableAfter t (template w room) = t
 
 -- ---- a sequence of calls on a lent table
+
+-- how many slots a pool has that is made on it
+abbrev pub slotsOn : List ℕ → ℕ
+slotsOn lent = slotsIn (length lent)
 
 -- a call that was made, and whether it succeeded: all that is kept of it. "0 is success"
 pub record Event : Type 0 where

@@ -1,7 +1,7 @@
 -- Demand 3's last sentence: "Which entries and links stand, and what each entry holds, follows from the calls by 01's module 8." What
 -- stands after a list of events, the latest first: by the calls that succeeded alone, without any pool. Assumes nothing.
 use Prim.Native.Nat.{ℕ, _+_, _-_, _*_}
-use mathlib.Core.Bool.{Bool, false, cond, not, _&&_, _||_}
+use mathlib.Core.Bool.{Bool, true, false, cond, not, _&&_, _||_}
 use mathlib.Core.List.{List, [], _∷_}
 use lib.Dec.{eqb}
 use Rattle.lists.specs.Below.{anyFrom, firstFrom}
@@ -157,6 +157,27 @@ limitsAfter (template w room) before = before
 unfoldable pub limitsNow : List Event → Limits
 limitsNow [] = record { count = 0; size = 0; «bytes_per_sigop» = 0 }
 limitsNow (e ∷ es) = cond (e .done) (limitsAfter (e .call) (limitsNow es)) (limitsNow es)
+
+-- ---- whom a call is about: "No call changes another entry's own numbers or any other link." Making and clearing are about all
+
+abbrev pub isAbout : Call → Txid → Bool
+isAbout (make l) x = true
+isAbout (add e listed) x = sameTxid (e .txid) x
+isAbout (remove y) x = sameTxid y x
+isAbout (setCost y c) x = sameTxid y x
+isAbout clear x = true
+isAbout totals x = false
+isAbout (template w room) x = false
+
+-- of the link from x to its parent y
+abbrev pub isAboutLink : Call → Txid → Txid → Bool
+isAboutLink (make l) x y = true
+isAboutLink (add e listed) x y = sameTxid (e .txid) x
+isAboutLink (remove z) x y = sameTxid z x || sameTxid z y
+isAboutLink (setCost z c) x y = false
+isAboutLink clear x y = true
+isAboutLink totals x y = false
+isAboutLink (template w room) x y = false
 
 -- ---- all of it: the pool that stands
 

@@ -1,0 +1,262 @@
+-- Demand 3, for readers: "From an empty pool, after any sequence of pool calls, refused ones included". `History lent es t`: a pool was made
+-- on the table `lent`, `es` are the calls since and that making, the latest first, each with whether it succeeded, and t is the table now.
+-- What stands by them is in specs/Standing.antt, without a pool. No proof of a function cites these. Assumes nothing.
+use mathlib.Core.Path.{_≡_, refl, sym, ap, _∙_}
+use mathlib.Core.Bool.{true, false}
+use mathlib.Core.Logic.{_⊎_}
+use mathlib.Core.List.{List, [], _∷_, _++_}
+use Prim.Native.Nat.{ℕ, _+_, _≤_}
+use native.Mathlib.Omega.{arith}
+use lib.Dec.{eqb}
+use lib.ListN.{length}
+use borrow.Author.Tests.{ne-eqb}
+use Rattle.lists.specs.Lists.{elem, distinct, overwrite}
+use Rattle.refusals.specs.Refusals.{answerOf, replyOf, keptUnless, refusal, success}
+use Rattle.txids.specs.declared.Txid.{Txid}
+use Rattle.weights.specs.Weights.{virtualSize}
+use Rattle.ways.specs.Ways.{Way}
+use Rattle.pool_table.specs.declared.Entry.{Entry}
+use Rattle.pool_table.specs.declared.Limits.{Limits}
+use Rattle.pool_table.specs.Pool.{Pool, slotAt, slotCount, occupied, entries}
+use Rattle.pool_table.specs.Words.{poolOf, tableOf}
+use Rattle.pool_table.specs.Links.{isParent, isChild, inCluster, countOf, weightOf}
+use Rattle.pool_table.specs.WellFormed.{wellFormed}
+use Rattle.pool_rules.specs.declared.Placed.{Placed}
+use Rattle.pool_rules.specs.declared.Totals.{Totals}
+use Rattle.pool_rules.specs.Module8.{isIn, slotOf}
+use Rattle.pool_rules.specs.Calls.{noSlot, placed, makeAnswer, afterMake, addReply, afterAdd, namedReply, afterRemove, afterSetCost, clearAnswer}
+use Rattle.pool_rules.specs.Calls.{afterClear, totalsReply}
+use Rattle.template_rules.specs.Filling as filling
+use Rattle.template_rules.specs.Calls.{templateReply, templateRoom}
+use Rattle.template_rules.proofs.Theorems as rules
+use Rattle.template_rules.proofs.Theorems.{Allowed}
+use Rattle.pool_history.specs.History.{Call, template, answerTo, tableAfter, slotsOn, Event, History, next}
+use Rattle.pool_history.specs.Standing.{stands, held, linked, allAdded, allRemoved, weightOfEntry, oneEach, howMany, totalWeight, board}
+use Rattle.pool_history.specs.Standing.{lowestUnused, limitsNow, isAbout, isAboutLink, standing}
+use Rattle.pool_history.specs.Replies.{addRefusalsBy, namedRefusalsBy, templateRefusalsBy, refusalsBy, eventsOf, callsOf}
+use Rattle.pool_history.proofs.Plain.{parent-is}
+use Rattle.pool_history.proofs.Kept.{Kept, well-kept}
+use Rattle.pool_history.proofs.Steps as steps
+use Rattle.pool_history.proofs.Places.{At, at-slot}
+use Rattle.pool_history.proofs.Account.{account}
+use Rattle.pool_history.proofs.Follows.{Follows, follows, follows-plain, follows-pool, follows-table}
+use Rattle.pool_history.proofs.Replies as replies
+use Rattle.pool_history.proofs.Others.{Same, other-same, link-same, ends-stay}
+
+module _ {lent : List ℕ} {es : List Event} {t : List ℕ} (h : History lent es t) where
+  -- how many slots the pool has
+  abbrev n : ℕ
+  n = slotsOn lent
+
+  so : Follows lent es t
+  so = follows h
+
+  kept : Kept (poolOf t)
+  kept = well-kept t (so .well)
+
+  -- ---- "parents and children name each other, no parent chain closes on itself, and no cluster passes the pool's count or size limit"
+
+  pub parents-and-children : (a b : ℕ) → isParent (poolOf t) a b ≡ isChild (poolOf t) b a
+  parents-and-children = steps.name-each-other kept
+
+  pub no-chain-closes : (a : ℕ) → Way (isParent (poolOf t)) a a → ⊥
+  no-chain-closes = steps.no-chain-closes kept
+
+  -- the limits are those of the last making that succeeded
+  pub cluster-count : (s : ℕ) → occupied (poolOf t) s ≡ true → countOf (poolOf t) (inCluster (poolOf t) s) ≤ limitsNow es .count
+  cluster-count s o = omega (arith, steps.within-count kept s o, ap (λ (l : Limits). l .count) (so .right .limits))
+
+  pub cluster-size : (s : ℕ) → occupied (poolOf t) s ≡ true → virtualSize (weightOf (poolOf t) (inCluster (poolOf t) s)) ≤ limitsNow es .size
+  cluster-size s o = omega (arith, steps.within-size kept s o, ap (λ (l : Limits). l .size) (so .right .limits))
+
+  -- ---- "So no later call finds the pool ill-formed"
+
+  pub well-formed : wellFormed t ≡ true
+  well-formed = so .well
+
+  -- 12 is not answered again, whatever the call
+  pub never-ill-formed : (c : Call) → answerTo t c ≡ 12 → ⊥
+  never-ill-formed = replies.follows-never so
+
+  -- ---- "Which entries and links stand, and what each entry holds, follows from the calls by 01's module 8."
+
+  -- the entries
+  pub entry-stands : (x : Txid) → isIn (poolOf t) x ≡ stands es x
+  entry-stands = replies.follows-in so
+
+  pub entry-holds : (x : Txid) → stands es x ≡ true → slotAt (poolOf t) (slotOf (poolOf t) x) .entry ≡ held es x
+  entry-holds x e = so .right .told x (slotOf (poolOf t) x) (replies.follows-at so x e) .held
+
+  -- "Adding takes the lowest free slot; a freed slot is free."
+  pub entry-place : (x : Txid) → stands es x ≡ true → slotOf (poolOf t) x ≡ board n es .place x
+  entry-place = replies.follows-slot so
+
+  pub slot-used : (s : ℕ) → occupied (poolOf t) s ≡ board n es .used s
+  slot-used = so .right .used
+
+  -- no slot holds anything else: one entry to a slot, one slot to an entry
+  pub slot-holds : (s : ℕ) → occupied (poolOf t) s ≡ true
+      → (stands es (slotAt (poolOf t) s .entry .txid) ≡ true) × (slotOf (poolOf t) (slotAt (poolOf t) s .entry .txid) ≡ s)
+  slot-holds s o =
+      let x = slotAt (poolOf t) s .entry .txid in
+      let a : At (poolOf t) x s = record { there = o; named = refl } in
+      (so .right .told x s a .stands, at-slot (follows-plain so) a)
+
+  -- the links
+  pub link-stands : (x y : Txid) → stands es x ≡ true → stands es y ≡ true
+      → isParent (poolOf t) (slotOf (poolOf t) x) (slotOf (poolOf t) y) ≡ linked es x y
+  link-stands x y u v =
+      let a = slotOf (poolOf t) x in
+      let b = slotOf (poolOf t) y in
+      parent-is (follows-plain so) a b ∙ so .right .links x y a b (replies.follows-at so x u) (replies.follows-at so y v)
+
+  pub link-ends : (x y : Txid) → linked es x y ≡ true → (stands es x ≡ true) × (stands es y ≡ true)
+  link-ends = so .right .ends
+
+  -- "The total weight equals all weights added less all removed, since the last clear or making", and the entries are as many
+  pub total-stands : poolOf t .total + allRemoved weightOfEntry es ≡ allAdded weightOfEntry es
+  total-stands = so .right .total
+
+  pub count-stands : entries (poolOf t) + allRemoved oneEach es ≡ allAdded oneEach es
+  count-stands = so .right .entries
+
+  -- "stores both limits and the bytes per sigop, kept until it is made anew"
+  pub limits-stand : poolOf t .limits ≡ limitsNow es
+  limits-stand = so .right .limits
+
+  pub slots-stay : slotCount (poolOf t) ≡ n
+  slots-stay = so .right .count
+
+  -- all of it at once, word by word
+  pub pool-stands : poolOf t ≡ standing n es
+  pool-stands = follows-pool so
+
+  pub table-stands : t ≡ tableOf (standing n es)
+  table-stands = follows-table so
+
+  -- "follows from the calls": which of them succeed, too
+  pub calls-alone : es ≡ eventsOf n (callsOf es)
+  calls-alone = replies.follows-calls h
+
+  -- ---- what a call answers
+
+  -- which refusal, in terms of what stands
+  pub answer-stands : (c : Call) → answerTo t c ≡ answerOf (refusalsBy n es c)
+  answer-stands = replies.follows-answer so
+
+  -- "add, remove and set-cost (each answers the slot)"
+  pub add-answers : (e : Entry) (listed : List ℕ)
+      → addReply t e listed ≡ replyOf noSlot (addRefusalsBy n es e listed) (placed (lowestUnused n (board n es)))
+  add-answers = replies.follows-add so
+
+  pub named-answers : (x : Txid) → namedReply t x ≡ replyOf noSlot (namedRefusalsBy es x) (placed (board n es .place x))
+  named-answers = replies.follows-named so
+
+  -- "totals (entries, total weight)"
+  pub totals-answers : totalsReply t ≡ record { answer = 0; entries = howMany es; weight = totalWeight es }
+  totals-answers = replies.follows-totals so
+
+  -- ---- "a template that is answered equals demand 2's, names no transaction twice and each after all its ancestors in the pool, with raw
+  -- weight within the budget and, unless it is empty, sigops plus reserve at most 80,000"
+
+  -- the template of the pool that stands: its length is answered, and the room holds it from its start
+  pub template-answers : (w : filling.Settings) (room : List ℕ)
+      → templateReply t w room ≡ replyOf refusal (templateRefusalsBy n es w room) (success (length (filling.template (standing n es) w)))
+  template-answers = replies.follows-template so
+
+  pub template-writes : (w : filling.Settings) (room : List ℕ)
+      → templateRoom t w room ≡ keptUnless (templateRefusalsBy n es w room) room (overwrite (filling.template (standing n es) w) room)
+  template-writes = replies.follows-room so
+
+  module _ (w : filling.Settings) where
+    pub template-once : distinct (filling.template (poolOf t) w) ≡ true
+    template-once = rules.template-once (poolOf t) (kept .good) (kept .few) w
+
+    -- slots and transactions are one for one
+    pub template-names : (a b : ℕ) → elem a (filling.template (poolOf t) w) ≡ true → elem b (filling.template (poolOf t) w) ≡ true
+        → slotAt (poolOf t) a .entry .txid ≡ slotAt (poolOf t) b .entry .txid → a ≡ b
+    template-names a b i j =
+        let held : (s : ℕ) → elem s (filling.template (poolOf t) w) ≡ true → occupied (poolOf t) s ≡ true =
+        rules.template-held (poolOf t) (kept .good) (kept .few) w in
+        follows-plain so .distinct a b (held a i) (held b j)
+
+    pub template-after : (xs ys : List ℕ) (s a : ℕ) → filling.template (poolOf t) w ≡ xs ++ (s ∷ ys) → Way (isParent (poolOf t)) s a
+        → elem a xs ≡ true
+    template-after = rules.template-after (poolOf t) (kept .good) (kept .few) w
+
+    pub template-budget : filling.rawSum (poolOf t) (filling.template (poolOf t) w) ≤ w .terms .budget .0
+    template-budget = rules.template-budget (poolOf t) (kept .good) (kept .few) w
+
+    pub template-sigops : (filling.template (poolOf t) w ≡ [])
+        ⊎ (filling.costSum (poolOf t) (filling.template (poolOf t) w) + w .terms .reserve ≤ 80000)
+    template-sigops = rules.template-sigops (poolOf t) (kept .good) (kept .few) w
+
+-- ---- nothing is lost
+
+module _ {lent : List ℕ} {es : List Event} {t : List ℕ} (h : History lent es t) (c : Call) where
+  -- the pool before the call, and after it
+  abbrev p : Pool
+  p = poolOf t
+
+  abbrev q : Pool
+  q = poolOf (tableAfter t c)
+
+  -- "A refusal .. all lent memory stays."
+  pub refused-leaves : (answerTo t c ≡ 0 → ⊥) → tableAfter t c ≡ t
+  refused-leaves z = steps.refused-stays t c (ne-eqb (answerTo t c) 0 z)
+
+  -- "No call changes another entry's own numbers": it is in the pool exactly where it was, in its slot, and holds what it held
+  module _ (x : Txid) (e : isAbout c x ≡ false) where
+    same : Same (account (slotsOn lent) es) (account (slotsOn lent) (record { call = c; done = eqb (answerTo t c) 0 } ∷ es)) x
+    same = other-same (slotsOn lent) es c (eqb (answerTo t c) 0) x e
+
+    pub other-stays : isIn q x ≡ isIn p x
+    other-stays = entry-stands (next c h) x ∙ same .stands ∙ sym (entry-stands h x)
+
+    pub other-keeps : isIn p x ≡ true → (slotOf q x ≡ slotOf p x) × (slotAt q (slotOf q x) .entry ≡ slotAt p (slotOf p x) .entry)
+    other-keeps i =
+        let u : stands es x ≡ true = sym (entry-stands h x) ∙ i in
+        let v = same .stands ∙ u in (
+          entry-place (next c h) x v ∙ same .place ∙ sym (entry-place h x u),
+          entry-holds (next c h) x v ∙ same .held ∙ sym (entry-holds h x u),
+        )
+
+  -- "or any other link"
+  pub other-link : (x y : Txid) → isAboutLink c x y ≡ false → isIn p x ≡ true → isIn p y ≡ true
+      → isParent q (slotOf q x) (slotOf q y) ≡ isParent p (slotOf p x) (slotOf p y)
+  other-link x y e i j =
+      let b = eqb (answerTo t c) 0 in
+      let u : stands es x ≡ true = sym (entry-stands h x) ∙ i in
+      let v : stands es y ≡ true = sym (entry-stands h y) ∙ j in
+      let s = ends-stay (slotsOn lent) es c b x y e u v in
+      link-stands (next c h) x y (s .0) (s .1) ∙ link-same (slotsOn lent) es c b x y e ∙ sym (link-stands h x y u v)
+
+-- ---- "prove that any two outcomes allowed by one contract coincide": of each pool call on any table, what it answers and what it leaves; of
+-- template it is `template-outcome` of template_rules
+
+coincide : {R : Type 0} {reply a b : R} {after l m : List ℕ} → Allowed reply after a l → Allowed reply after b m → (a ≡ b) × (l ≡ m)
+coincide x y = (x .answers ∙ sym (y .answers), x .leaves ∙ sym (y .leaves))
+
+module _ (t : List ℕ) {l m : List ℕ} where
+  pub make-one : (limits : Limits) {a b : ℕ} → Allowed (makeAnswer t limits) (afterMake t limits) a l
+      → Allowed (makeAnswer t limits) (afterMake t limits) b m → (a ≡ b) × (l ≡ m)
+  make-one limits = coincide
+
+  pub add-one : (e : Entry) (listed : List ℕ) {a b : Placed} → Allowed (addReply t e listed) (afterAdd t e listed) a l
+      → Allowed (addReply t e listed) (afterAdd t e listed) b m → (a ≡ b) × (l ≡ m)
+  add-one e listed = coincide
+
+  pub remove-one : (x : Txid) {a b : Placed} → Allowed (namedReply t x) (afterRemove t x) a l → Allowed (namedReply t x) (afterRemove t x) b m
+      → (a ≡ b) × (l ≡ m)
+  remove-one x = coincide
+
+  pub set-cost-one : (x : Txid) (c : ℕ) {a b : Placed} → Allowed (namedReply t x) (afterSetCost t x c) a l
+      → Allowed (namedReply t x) (afterSetCost t x c) b m → (a ≡ b) × (l ≡ m)
+  set-cost-one x c = coincide
+
+  pub clear-one : {a b : ℕ} → Allowed (clearAnswer t) (afterClear t) a l → Allowed (clearAnswer t) (afterClear t) b m → (a ≡ b) × (l ≡ m)
+  clear-one = coincide
+
+  -- totals is lent the table to read alone
+  pub totals-one : {a b : Totals} → Allowed (totalsReply t) t a l → Allowed (totalsReply t) t b m → (a ≡ b) × (l ≡ m)
+  totals-one = coincide
