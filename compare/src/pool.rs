@@ -91,7 +91,12 @@ fn make(table: &mut [u64], limits: Limits) -> Answer {
         return (3, [0, 0]);
     };
     let entries = BTreeMap::new();
-    Pool { limits, slots, entries }.write(table);
+    Pool {
+        limits,
+        slots,
+        entries,
+    }
+    .write(table);
     (0, [0, 0])
 }
 
@@ -111,7 +116,11 @@ impl Pool {
     /// The pool of a table, if the table is well-formed.
     fn read(table: &[u64]) -> Option<Pool> {
         let slots = whole_slots(table.len())?;
-        let limits = Limits { count: table[0], size: table[1], bytes_per_sigop: table[2] };
+        let limits = Limits {
+            count: table[0],
+            size: table[1],
+            bytes_per_sigop: table[2],
+        };
         let row = |slot: usize| &table[HEADER + slot * ROW..][..ROW];
         let taken = |slot: usize| slot < slots && row(slot)[5] != 0;
         let mut entries = BTreeMap::new();
@@ -131,7 +140,13 @@ impl Pool {
             if fee > MOST_FEE || weight > MOST_WEIGHT {
                 return None;
             }
-            let entry = Entry { slot, fee, weight, cost, parents };
+            let entry = Entry {
+                slot,
+                fee,
+                weight,
+                cost,
+                parents,
+            };
             if entries.insert(txid_of(&words[..4]), entry).is_some() {
                 return None;
             }
@@ -144,14 +159,25 @@ impl Pool {
             let child = txid_of(&row(*child)[..4]);
             entries.get_mut(&child)?.parents.insert(parent);
         }
-        let pool = Pool { limits, slots, entries };
-        let sound = limits.in_range() && pool.weight() == table[3] && pool.acyclic() && pool.within_limits();
+        let pool = Pool {
+            limits,
+            slots,
+            entries,
+        };
+        let sound = limits.in_range()
+            && pool.weight() == table[3]
+            && pool.acyclic()
+            && pool.within_limits();
         sound.then_some(pool)
     }
 
     fn write(&self, table: &mut [u64]) {
         table.fill(0);
-        table[..3].copy_from_slice(&[self.limits.count, self.limits.size, self.limits.bytes_per_sigop]);
+        table[..3].copy_from_slice(&[
+            self.limits.count,
+            self.limits.size,
+            self.limits.bytes_per_sigop,
+        ]);
         table[3] = self.weight();
         for (txid, entry) in &self.entries {
             let at = HEADER + entry.slot * ROW;
@@ -172,8 +198,11 @@ impl Pool {
     }
 
     fn acyclic(&self) -> bool {
-        let mut left: BTreeMap<&Txid, &BTreeSet<Txid>> =
-            self.entries.iter().map(|(txid, entry)| (txid, &entry.parents)).collect();
+        let mut left: BTreeMap<&Txid, &BTreeSet<Txid>> = self
+            .entries
+            .iter()
+            .map(|(txid, entry)| (txid, &entry.parents))
+            .collect();
         loop {
             let ready: Vec<Txid> = left
                 .iter()
@@ -193,7 +222,11 @@ impl Pool {
         let mut todo: Vec<Txid> = seeds.iter().copied().collect();
         while let Some(txid) = todo.pop() {
             let up = self.entries[&txid].parents.iter().copied();
-            let down = self.entries.iter().filter(|(_, entry)| entry.parents.contains(&txid)).map(|(child, _)| *child);
+            let down = self
+                .entries
+                .iter()
+                .filter(|(_, entry)| entry.parents.contains(&txid))
+                .map(|(child, _)| *child);
             for other in up.chain(down).collect::<Vec<_>>() {
                 if found.insert(other) {
                     todo.push(other);
@@ -204,7 +237,11 @@ impl Pool {
     }
 
     fn exceeds(&self, members: &BTreeSet<Txid>, more: usize, weight: u64) -> Option<u64> {
-        let sum = members.iter().map(|txid| self.entries[txid].weight).sum::<u64>() + weight;
+        let sum = members
+            .iter()
+            .map(|txid| self.entries[txid].weight)
+            .sum::<u64>()
+            + weight;
         if (members.len() + more) as u64 > self.limits.count {
             Some(8)
         } else if sum.div_ceil(4) > self.limits.size {
@@ -261,7 +298,9 @@ impl Pool {
             return Err(6);
         }
         let used: BTreeSet<usize> = self.entries.values().map(|entry| entry.slot).collect();
-        let slot = (0..self.slots).find(|slot| !used.contains(slot)).ok_or(7u64)?;
+        let slot = (0..self.slots)
+            .find(|slot| !used.contains(slot))
+            .ok_or(7u64)?;
         let parents: BTreeSet<Txid> = new
             .parents
             .chunks(32)
@@ -271,7 +310,13 @@ impl Pool {
         if let Some(number) = self.exceeds(&self.clusters(&parents), 1, new.weight) {
             return Err(number);
         }
-        let entry = Entry { slot, fee: new.fee, weight: new.weight, cost: new.cost, parents };
+        let entry = Entry {
+            slot,
+            fee: new.fee,
+            weight: new.weight,
+            cost: new.cost,
+            parents,
+        };
         self.entries.insert(new.txid, entry);
         Ok([slot as u64, 0])
     }

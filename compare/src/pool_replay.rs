@@ -29,7 +29,11 @@ pub fn write(folder: &Path) -> Result<(), String> {
     full(&mut list);
     broken(&mut list);
     histories(&mut list);
-    println!("{} lines, {} bytes, seed {SEED}", list.lines, list.asked.len());
+    println!(
+        "{} lines, {} bytes, seed {SEED}",
+        list.lines,
+        list.asked.len()
+    );
     let write = |name, text| std::fs::write(folder.join(name), text);
     write("stdin", list.asked)
         .and_then(|()| write("stdout", list.told))
@@ -62,7 +66,13 @@ struct List {
 
 impl List {
     fn new() -> Self {
-        List { table: vec![0; WORDS], lent: WORDS - 1, asked: String::new(), told: String::new(), lines: 0 }
+        List {
+            table: vec![0; WORDS],
+            lent: WORDS - 1,
+            asked: String::new(),
+            told: String::new(),
+            lines: 0,
+        }
     }
 
     fn line(&mut self, numbers: &[u64]) {
@@ -91,15 +101,31 @@ impl List {
 
     fn make(&mut self, words: usize, count: u64, size: u64, bytes_per_sigop: u64) -> u64 {
         self.lent = words;
-        let limits = Limits { count, size, bytes_per_sigop };
-        self.call(&[0, words as u64, count, size, bytes_per_sigop], Call::Make(limits))
+        let limits = Limits {
+            count,
+            size,
+            bytes_per_sigop,
+        };
+        self.call(
+            &[0, words as u64, count, size, bytes_per_sigop],
+            Call::Make(limits),
+        )
     }
 
     fn add_with(&mut self, id: u64, [fee, weight, cost]: [u64; 3], odd: u64, ids: &[u64]) -> u64 {
         let mut parents: Vec<u8> = ids.iter().flat_map(|id| txid(*id)).collect();
         parents.extend((0..odd).map(|_| 0));
         let numbers = [&[1, id, fee, weight, cost, odd], ids].concat();
-        self.call(&numbers, Call::Add(Newcomer { txid: txid(id), fee, weight, cost, parents }))
+        self.call(
+            &numbers,
+            Call::Add(Newcomer {
+                txid: txid(id),
+                fee,
+                weight,
+                cost,
+                parents,
+            }),
+        )
     }
 
     fn add(&mut self, id: u64, weight: u64, ids: &[u64]) -> u64 {
@@ -124,7 +150,13 @@ impl List {
 
     /// Every call but make, none of which succeeds on a broken table.
     fn each(&mut self) {
-        let answers = [self.add(900, 400, &[]), self.remove(2), self.set_cost(2, 5), self.clear(), self.totals()];
+        let answers = [
+            self.add(900, 400, &[]),
+            self.remove(2),
+            self.set_cost(2, 5),
+            self.clear(),
+            self.totals(),
+        ];
         assert_eq!(answers, [12; 5]);
     }
 }
@@ -184,7 +216,10 @@ fn pairs(list: &mut List) {
     assert_eq!(list.add_with(1, [1, 0, 1], 0, &[]), 3);
     assert_eq!(list.add_with(2, [2_100_000_000_000_001, 1, 1], 0, &[]), 3);
     assert_eq!(list.add_with(2, [1, 4_000_001, 1], 0, &[]), 3);
-    assert_eq!(list.add_with(2, [2_100_000_000_000_000, 4_000_000, u64::MAX], 0, &[]), 9);
+    assert_eq!(
+        list.add_with(2, [2_100_000_000_000_000, 4_000_000, u64::MAX], 0, &[]),
+        9
+    );
     list.add(2, 1, &[1]);
     assert_eq!(list.add_with(1, good, 0, &[]), 6);
     assert_eq!(list.add_with(3, [1, 100, 1], 0, &[1]), 7);
@@ -206,7 +241,11 @@ fn full(list: &mut List) {
     list.make(words(1024), 64, 101_000, 20);
     for id in 0..1024u64 {
         let scattered = id.wrapping_mul(0x9e37_79b9_7f4a_7c15);
-        let parent = if id % 64 == 0 { vec![] } else { vec![(id - 1).wrapping_mul(0x9e37_79b9_7f4a_7c15)] };
+        let parent = if id % 64 == 0 {
+            vec![]
+        } else {
+            vec![(id - 1).wrapping_mul(0x9e37_79b9_7f4a_7c15)]
+        };
         assert_eq!(list.add(scattered, 4, &parent), 0);
     }
     assert_eq!(list.add(1, 4, &[]), 7);
@@ -228,29 +267,32 @@ fn broken(list: &mut List) {
     let row = |slot: usize| 4 + 39 * slot;
     let last = row(69);
     let spots: Vec<Vec<(usize, u64)>> = vec![
-        vec![(0, 0)],                                   // the count limit out of its range
+        vec![(0, 0)], // the count limit out of its range
         vec![(0, 65)],
-        vec![(1, 0)],                                   // the size limit
+        vec![(1, 0)], // the size limit
         vec![(1, 101_001)],
-        vec![(row(0) + 4, 2_100_000_000_000_001)],      // a fee
-        vec![(row(0) + 5, 4_000_001), (3, 4_000_161)],  // a weight
-        vec![(row(4), 1), (row(4) + 3, 1)],             // a txid twice
-        vec![(3, 199)],                                 // the total
+        vec![(row(0) + 4, 2_100_000_000_000_001)], // a fee
+        vec![(row(0) + 5, 4_000_001), (3, 4_000_161)], // a weight
+        vec![(row(4), 1), (row(4) + 3, 1)],        // a txid twice
+        vec![(3, 199)],                            // the total
         vec![(3, 201)],
-        vec![(last + 6, 1)],                            // a free slot with a cost
-        vec![(last + 38, 1 << 63)],                     // .. with a child past the slots
-        vec![(row(0) + 23, 0)],                         // a child lost
-        vec![(row(1) + 7, 0)],                          // a parent lost
-        vec![(row(0) + 7, 1 << 4)],                     // a parent that does not answer
-        vec![(row(0) + 23, 2 | 1 << 10)],               // a child that is free
-        vec![(row(0) + 7 + 2, 1)],                      // a parent past the slots
-        vec![(row(0) + 7, 1), (row(0) + 23, 3)],        // its own parent and child
-        vec![(row(0) + 7, 8), (row(3) + 23, 1)],        // a chain that closes
-        vec![(0, 3)],                                   // a cluster past the count limit
-        vec![(1, 39)],                                  // past the size limit
+        vec![(last + 6, 1)],                     // a free slot with a cost
+        vec![(last + 38, 1 << 63)],              // .. with a child past the slots
+        vec![(row(0) + 23, 0)],                  // a child lost
+        vec![(row(1) + 7, 0)],                   // a parent lost
+        vec![(row(0) + 7, 1 << 4)],              // a parent that does not answer
+        vec![(row(0) + 23, 2 | 1 << 10)],        // a child that is free
+        vec![(row(0) + 7 + 2, 1)],               // a parent past the slots
+        vec![(row(0) + 7, 1), (row(0) + 23, 3)], // its own parent and child
+        vec![(row(0) + 7, 8), (row(3) + 23, 1)], // a chain that closes
+        vec![(0, 3)],                            // a cluster past the count limit
+        vec![(1, 39)],                           // past the size limit
     ];
     for spot in spots {
-        let before: Vec<(usize, u64)> = spot.iter().map(|(place, _)| (*place, list.table[*place])).collect();
+        let before: Vec<(usize, u64)> = spot
+            .iter()
+            .map(|(place, _)| (*place, list.table[*place]))
+            .collect();
         for (place, word) in spot {
             list.put(place, word);
         }
@@ -272,7 +314,13 @@ fn broken(list: &mut List) {
 /// Random calls, refused ones in the mix, on pools of several sizes.
 fn histories(list: &mut List) {
     let mut rng = Rng::new(SEED);
-    for (slots, count, size) in [(1, 1, 1), (3, 2, 30), (7, 3, 60), (24, 6, 400), (24, 64, 101_000)] {
+    for (slots, count, size) in [
+        (1, 1, 1),
+        (3, 2, 30),
+        (7, 3, 60),
+        (24, 6, 400),
+        (24, 64, 101_000),
+    ] {
         list.make(words(slots), count, size, 20);
         let ids = slots as u64 * 2;
         for _ in 0..120 {
@@ -282,7 +330,12 @@ fn histories(list: &mut List) {
                     let parents: Vec<u64> = (0..rng.below(4)).map(|_| rng.below(ids)).collect();
                     let odd = u64::from(rng.one_in(40));
                     let weight = rng.below(4 * size / 2 + 3);
-                    list.add_with(id, [rng.below(1_000_000), weight, rng.below(100)], odd, &parents);
+                    list.add_with(
+                        id,
+                        [rng.below(1_000_000), weight, rng.below(100)],
+                        odd,
+                        &parents,
+                    );
                 }
                 10..=12 => {
                     list.remove(id);
