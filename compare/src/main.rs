@@ -14,6 +14,8 @@ mod pool_replay;
 mod replay;
 mod rng;
 mod run;
+mod template;
+mod template_replay;
 mod texts;
 mod worst;
 mod wrong;
@@ -28,7 +30,8 @@ compare worst [--seconds S]             search for the clusters with the smalles
 compare wrong [--tries N]               search for the smallest cluster that tells each wrong program from the right one
 compare replay DIR                      write cases and answers, as stdin and stdout, to a folder
 compare texts DIR                       write the table of crates/run_cluster_texts to a folder
-compare pool DIR                        write calls on pools and their answers, as stdin and stdout, to a folder";
+compare pool DIR                        write calls on pools and their answers, as stdin and stdout, to a folder
+compare template DIR                    the same of templates";
 
 fn main() -> ExitCode {
     let words: Vec<String> = std::env::args().skip(1).collect();
@@ -67,6 +70,7 @@ fn perform(words: &[&str]) -> Result<(), String> {
         }
         ["replay", folder] => replay::write(Path::new(folder)),
         ["pool", folder] => pool_replay::write(Path::new(folder)),
+        ["template", folder] => template_replay::write(Path::new(folder)),
         ["texts", folder] => {
             let told = texts::write_table(Path::new(folder));
             told.map_err(|error| format!("{folder}: {error}"))

@@ -11,10 +11,10 @@ const SET: usize = 16;
 const PARENTS: usize = 7;
 const CHILDREN: usize = PARENTS + SET;
 const SLOTS: usize = 1024;
-const MOST_FEE: u64 = 2_100_000_000_000_000;
+pub const MOST_FEE: u64 = 2_100_000_000_000_000;
 const MOST_WEIGHT: u64 = 4_000_000;
 
-#[derive(Clone, Copy, PartialEq, Eq)]
+#[derive(Clone, Copy, Debug, PartialEq, Eq)]
 pub struct Limits {
     pub count: u64,
     pub size: u64,
@@ -28,7 +28,7 @@ impl Limits {
 }
 
 /// What add is given.
-#[derive(Clone)]
+#[derive(Clone, Debug)]
 pub struct Newcomer {
     pub txid: Txid,
     pub fee: u64,
@@ -37,7 +37,7 @@ pub struct Newcomer {
     pub parents: Vec<u8>,
 }
 
-#[derive(Clone)]
+#[derive(Clone, Debug)]
 pub enum Call {
     Make(Limits),
     Add(Newcomer),
@@ -50,18 +50,20 @@ pub enum Call {
 /// An answer's number, and what a call answers beside it.
 pub type Answer = (u64, [u64; 2]);
 
-struct Entry {
-    slot: usize,
-    fee: u64,
-    weight: u64,
-    cost: u64,
-    parents: BTreeSet<Txid>,
+#[derive(Clone, Debug)]
+pub struct Entry {
+    pub slot: usize,
+    pub fee: u64,
+    pub weight: u64,
+    pub cost: u64,
+    pub parents: BTreeSet<Txid>,
 }
 
-struct Pool {
-    limits: Limits,
-    slots: usize,
-    entries: BTreeMap<Txid, Entry>,
+#[derive(Clone, Debug)]
+pub struct Pool {
+    pub limits: Limits,
+    pub slots: usize,
+    pub entries: BTreeMap<Txid, Entry>,
 }
 
 /// Makes a call on a table: the answer, and the table as it is then.
@@ -87,16 +89,10 @@ fn whole_slots(words: usize) -> Option<usize> {
 }
 
 fn make(table: &mut [u64], limits: Limits) -> Answer {
-    let Some(slots) = whole_slots(table.len()).filter(|_| limits.in_range()) else {
+    let Some(pool) = whole_slots(table.len()).and_then(|slots| Pool::new(slots, limits)) else {
         return (3, [0, 0]);
     };
-    let entries = BTreeMap::new();
-    Pool {
-        limits,
-        slots,
-        entries,
-    }
-    .write(table);
+    pool.write(table);
     (0, [0, 0])
 }
 
@@ -113,8 +109,18 @@ fn txid_of(words: &[u64]) -> Txid {
 }
 
 impl Pool {
+    /// An empty pool, if its numbers are in their ranges.
+    pub fn new(slots: usize, limits: Limits) -> Option<Pool> {
+        let pool = Pool {
+            limits,
+            slots,
+            entries: BTreeMap::new(),
+        };
+        ((1..=SLOTS).contains(&slots) && limits.in_range()).then_some(pool)
+    }
+
     /// The pool of a table, if the table is well-formed.
-    fn read(table: &[u64]) -> Option<Pool> {
+    pub fn read(table: &[u64]) -> Option<Pool> {
         let slots = whole_slots(table.len())?;
         let limits = Limits {
             count: table[0],
@@ -171,7 +177,7 @@ impl Pool {
         sound.then_some(pool)
     }
 
-    fn write(&self, table: &mut [u64]) {
+    pub fn write(&self, table: &mut [u64]) {
         table.fill(0);
         table[..3].copy_from_slice(&[
             self.limits.count,
@@ -216,24 +222,50 @@ impl Pool {
         }
     }
 
+    /// The children of each entry that has some.
+    pub fn children(&self) -> BTreeMap<Txid, BTreeSet<Txid>> {
+        let mut children: BTreeMap<Txid, BTreeSet<Txid>> = BTreeMap::new();
+        for (txid, entry) in &self.entries {
+            for parent in &entry.parents {
+                children.entry(*parent).or_default().insert(*txid);
+            }
+        }
+        children
+    }
+
     /// The clusters of some entries together.
-    fn clusters(&self, seeds: &BTreeSet<Txid>) -> BTreeSet<Txid> {
+    fn clusters_of(
+        &self,
+        seeds: &BTreeSet<Txid>,
+        children: &BTreeMap<Txid, BTreeSet<Txid>>,
+    ) -> BTreeSet<Txid> {
         let mut found = seeds.clone();
         let mut todo: Vec<Txid> = seeds.iter().copied().collect();
         while let Some(txid) = todo.pop() {
-            let up = self.entries[&txid].parents.iter().copied();
-            let down = self
-                .entries
-                .iter()
-                .filter(|(_, entry)| entry.parents.contains(&txid))
-                .map(|(child, _)| *child);
-            for other in up.chain(down).collect::<Vec<_>>() {
-                if found.insert(other) {
-                    todo.push(other);
+            let up = self.entries[&txid].parents.iter();
+            let down = children.get(&txid).into_iter().flatten();
+            for other in up.chain(down) {
+                if found.insert(*other) {
+                    todo.push(*other);
                 }
             }
         }
         found
+    }
+
+    /// All clusters, the one with the lowest txid first.
+    pub fn clusters(&self) -> Vec<BTreeSet<Txid>> {
+        let children = self.children();
+        let mut seen: BTreeSet<Txid> = BTreeSet::new();
+        let mut clusters = Vec::new();
+        for txid in self.entries.keys() {
+            if !seen.contains(txid) {
+                let cluster = self.clusters_of(&BTreeSet::from([*txid]), &children);
+                seen.extend(&cluster);
+                clusters.push(cluster);
+            }
+        }
+        clusters
     }
 
     fn exceeds(&self, members: &BTreeSet<Txid>, more: usize, weight: u64) -> Option<u64> {
@@ -252,18 +284,11 @@ impl Pool {
     }
 
     fn within_limits(&self) -> bool {
-        let mut seen = BTreeSet::new();
-        self.entries.keys().all(|txid| {
-            if seen.contains(txid) {
-                return true;
-            }
-            let cluster = self.clusters(&BTreeSet::from([*txid]));
-            seen.extend(cluster.iter().copied());
-            self.exceeds(&cluster, 0, 0).is_none()
-        })
+        let fits = |cluster| self.exceeds(cluster, 0, 0).is_none();
+        self.clusters().iter().all(fits)
     }
 
-    fn perform(&mut self, call: &Call) -> Result<[u64; 2], u64> {
+    pub fn perform(&mut self, call: &Call) -> Result<[u64; 2], u64> {
         match call {
             Call::Make(_) => unreachable!("made before a table is read"),
             Call::Add(newcomer) => self.add(newcomer),
@@ -288,7 +313,7 @@ impl Pool {
     }
 
     fn add(&mut self, new: &Newcomer) -> Result<[u64; 2], u64> {
-        if new.parents.len() % 32 != 0 {
+        if !new.parents.len().is_multiple_of(32) {
             return Err(1);
         }
         if new.fee > MOST_FEE || !(1..=MOST_WEIGHT).contains(&new.weight) {
@@ -307,7 +332,8 @@ impl Pool {
             .map(|bytes| bytes.try_into().expect("whole 32s"))
             .filter(|txid| self.entries.contains_key(txid))
             .collect();
-        if let Some(number) = self.exceeds(&self.clusters(&parents), 1, new.weight) {
+        let joined = self.clusters_of(&parents, &self.children());
+        if let Some(number) = self.exceeds(&joined, 1, new.weight) {
             return Err(number);
         }
         let entry = Entry {

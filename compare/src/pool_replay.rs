@@ -29,18 +29,10 @@ pub fn write(folder: &Path) -> Result<(), String> {
     full(&mut list);
     broken(&mut list);
     histories(&mut list);
-    println!(
-        "{} lines, {} bytes, seed {SEED}",
-        list.lines,
-        list.asked.len()
-    );
-    let write = |name, text| std::fs::write(folder.join(name), text);
-    write("stdin", list.asked)
-        .and_then(|()| write("stdout", list.told))
-        .map_err(|error| format!("{}: {error}", folder.display()))
+    list.write(folder, SEED)
 }
 
-fn txid(id: u64) -> Txid {
+pub fn txid(id: u64) -> Txid {
     let mut txid = [0; 32];
     txid[..8].copy_from_slice(&id.to_be_bytes());
     txid[24..].copy_from_slice(&id.to_be_bytes());
@@ -48,24 +40,25 @@ fn txid(id: u64) -> Txid {
 }
 
 /// A sum in which every word and its place count.
-fn digest(table: &[u64]) -> u64 {
+pub fn digest(words: &[u64]) -> u64 {
     let mut sum = 0u64;
-    for word in table {
+    for word in words {
         sum = (sum % (1 << 32)) * 1_000_003 + word % (1 << 32) + word / (1 << 32);
     }
     sum
 }
 
-struct List {
-    table: Vec<u64>,
-    lent: usize,
+/// Lines that say what is done, and the lines that answer them.
+pub struct List {
+    pub table: Vec<u64>,
+    pub lent: usize,
     asked: String,
-    told: String,
+    pub told: String,
     lines: usize,
 }
 
 impl List {
-    fn new() -> Self {
+    pub fn new() -> Self {
         List {
             table: vec![0; WORDS],
             lent: WORDS - 1,
@@ -75,7 +68,20 @@ impl List {
         }
     }
 
-    fn line(&mut self, numbers: &[u64]) {
+    /// Writes `stdin` and `stdout` to a folder.
+    pub fn write(self, folder: &Path, seed: u64) -> Result<(), String> {
+        println!(
+            "{} lines, {} bytes, seed {seed}",
+            self.lines,
+            self.asked.len()
+        );
+        let write = |name, text| std::fs::write(folder.join(name), text);
+        write("stdin", self.asked)
+            .and_then(|()| write("stdout", self.told))
+            .map_err(|error| format!("{}: {error}", folder.display()))
+    }
+
+    pub fn line(&mut self, numbers: &[u64]) {
         let words: Vec<String> = numbers.iter().map(u64::to_string).collect();
         self.asked += &(words.join(" ") + "\n");
         self.lines += 1;
@@ -89,17 +95,17 @@ impl List {
         number
     }
 
-    fn lend(&mut self, words: usize) {
+    pub fn lend(&mut self, words: usize) {
         self.lent = words;
         self.line(&[7, words as u64]);
     }
 
-    fn put(&mut self, place: usize, word: u64) {
+    pub fn put(&mut self, place: usize, word: u64) {
         self.table[place] = word;
         self.line(&[6, place as u64, word]);
     }
 
-    fn make(&mut self, words: usize, count: u64, size: u64, bytes_per_sigop: u64) -> u64 {
+    pub fn make(&mut self, words: usize, count: u64, size: u64, bytes_per_sigop: u64) -> u64 {
         self.lent = words;
         let limits = Limits {
             count,
@@ -112,7 +118,13 @@ impl List {
         )
     }
 
-    fn add_with(&mut self, id: u64, [fee, weight, cost]: [u64; 3], odd: u64, ids: &[u64]) -> u64 {
+    pub fn add_with(
+        &mut self,
+        id: u64,
+        [fee, weight, cost]: [u64; 3],
+        odd: u64,
+        ids: &[u64],
+    ) -> u64 {
         let mut parents: Vec<u8> = ids.iter().flat_map(|id| txid(*id)).collect();
         parents.extend((0..odd).map(|_| 0));
         let numbers = [&[1, id, fee, weight, cost, odd], ids].concat();
@@ -132,15 +144,15 @@ impl List {
         self.add_with(id, [1000 + id % 1000, weight, id % 7], 0, ids)
     }
 
-    fn remove(&mut self, id: u64) -> u64 {
+    pub fn remove(&mut self, id: u64) -> u64 {
         self.call(&[2, id], Call::Remove(txid(id)))
     }
 
-    fn set_cost(&mut self, id: u64, cost: u64) -> u64 {
+    pub fn set_cost(&mut self, id: u64, cost: u64) -> u64 {
         self.call(&[3, id, cost], Call::SetCost(txid(id), cost))
     }
 
-    fn clear(&mut self) -> u64 {
+    pub fn clear(&mut self) -> u64 {
         self.call(&[4], Call::Clear)
     }
 
@@ -161,7 +173,7 @@ impl List {
     }
 }
 
-fn words(slots: usize) -> usize {
+pub fn words(slots: usize) -> usize {
     4 + 39 * slots
 }
 
