@@ -3,23 +3,32 @@
 mod check;
 mod cluster;
 mod damage;
+mod determined;
 mod exhaustive;
 mod expected;
 mod generate;
+mod history;
 mod measure;
 mod model;
 mod original;
+mod original_pool;
+mod ours;
 mod pool;
 mod pool_replay;
 mod replay;
 mod rng;
 mod run;
+mod sketch;
+mod smallest;
 mod template;
 mod template_replay;
+mod templates;
 mod texts;
 mod worst;
 mod wrong;
 
+// graph.rs looks for it at the root, where it stands in its own crate
+use original::linearize;
 use std::path::Path;
 use std::process::ExitCode;
 
@@ -30,6 +39,8 @@ compare worst [--seconds S]             search for the clusters with the smalles
 compare wrong [--tries N]               search for the smallest cluster that tells each wrong program from the right one
 compare replay DIR                      write cases and answers, as stdin and stdout, to a folder
 compare texts DIR                       write the table of crates/run_cluster_texts to a folder
+compare templates [S] [--templates N]   compare templates, and the pools below them, with the original's, from a seed
+compare smallest                        search for the smallest pools whose templates differ from the original's
 compare pool DIR                        write calls on pools and their answers, as stdin and stdout, to a folder
 compare template DIR                    the same of templates";
 
@@ -68,6 +79,15 @@ fn perform(words: &[&str]) -> Result<(), String> {
             wrong::search(tries);
             Ok(())
         }
+        ["templates", seed, options @ ..] if !seed.starts_with("--") => {
+            let seed = seed.parse().map_err(|_| USAGE)?;
+            compare_templates(seed, options)
+        }
+        ["templates", options @ ..] => compare_templates(templates::SEED, options),
+        ["smallest"] => {
+            smallest::search();
+            Ok(())
+        }
         ["replay", folder] => replay::write(Path::new(folder)),
         ["pool", folder] => pool_replay::write(Path::new(folder)),
         ["template", folder] => template_replay::write(Path::new(folder)),
@@ -77,6 +97,11 @@ fn perform(words: &[&str]) -> Result<(), String> {
         }
         _ => Err(USAGE.to_string()),
     }
+}
+
+fn compare_templates(seed: u64, options: &[&str]) -> Result<(), String> {
+    let [count] = numbers(options, [("--templates", templates::TEMPLATES)])?;
+    templates::run(seed, count)
 }
 
 /// The values of options that take a number, each with what it is by default.
