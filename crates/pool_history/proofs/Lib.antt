@@ -20,4 +20,7 @@ pub mod Standing
 pub mod Follows
 pub mod Replies
 pub mod Others
+pub mod Since
 pub mod Theorems
+pub mod Refuted
+pub mod Example

@@ -19,9 +19,6 @@ use Rattle.pool_history.proofs.Plain.{Plain}
 
 -- ---- one txid or another
 
-pub by-txid : (P : Txid → Type 0) (x y : Txid) → (x ≡ y → P y) → (sameTxid x y ≡ false → P y) → P y
-by-txid P x y same other = cases (sameTxid x y) (λ e. same (same-equal x y e)) other
-
 pub txids-flip : (x y : Txid) → sameTxid x y ≡ sameTxid y x
 txids-flip x y =
     true-together (sameTxid x y) (sameTxid y x) (λ e. equal-same y x (sym (same-equal x y e))) (λ e. equal-same x y (sym (same-equal y x e)))

@@ -1,8 +1,8 @@
 -- Demand 3, for readers: "From an empty pool, after any sequence of pool calls, refused ones included". `History lent es t`: a pool was made
 -- on the table `lent`, `es` are the calls since and that making, the latest first, each with whether it succeeded, and t is the table now.
 -- What stands by them is in specs/Standing.antt, without a pool. No proof of a function cites these. Assumes nothing.
-use mathlib.Core.Path.{_≡_, refl, sym, ap, _∙_}
-use mathlib.Core.Bool.{true, false}
+use mathlib.Core.Path.{_≡_, refl, sym, ap, _∙_, subst}
+use mathlib.Core.Bool.{true, false, not, _&&_}
 use mathlib.Core.Logic.{_⊎_}
 use mathlib.Core.List.{List, [], _∷_, _++_}
 use Prim.Native.Nat.{ℕ, _+_, _≤_}
@@ -13,12 +13,14 @@ use borrow.Author.Tests.{ne-eqb}
 use Rattle.lists.specs.Lists.{elem, distinct, overwrite}
 use Rattle.refusals.specs.Refusals.{answerOf, replyOf, keptUnless, refusal, success}
 use Rattle.txids.specs.declared.Txid.{Txid}
+use Rattle.txids.specs.Txids.{sameTxid}
 use Rattle.weights.specs.Weights.{virtualSize}
 use Rattle.ways.specs.Ways.{Way}
 use Rattle.pool_table.specs.declared.Entry.{Entry}
 use Rattle.pool_table.specs.declared.Limits.{Limits}
 use Rattle.pool_table.specs.Pool.{Pool, slotAt, slotCount, occupied, entries}
 use Rattle.pool_table.specs.Words.{poolOf, tableOf}
+use Rattle.pool_table.specs.Changes.{withCost}
 use Rattle.pool_table.specs.Links.{isParent, isChild, inCluster, countOf, weightOf}
 use Rattle.pool_table.specs.WellFormed.{wellFormed}
 use Rattle.pool_rules.specs.declared.Placed.{Placed}
@@ -31,17 +33,24 @@ use Rattle.template_rules.specs.Calls.{templateReply, templateRoom}
 use Rattle.template_rules.proofs.Theorems as rules
 use Rattle.template_rules.proofs.Theorems.{Allowed}
 use Rattle.pool_history.specs.History.{Call, template, answerTo, tableAfter, slotsOn, Event, History, next}
-use Rattle.pool_history.specs.Standing.{stands, held, linked, allAdded, allRemoved, weightOfEntry, oneEach, howMany, totalWeight, board}
+use Rattle.pool_history.specs.Standing.{stands, held, lists, linked, allAdded, allRemoved, weightOfEntry, oneEach, howMany, totalWeight, board}
 use Rattle.pool_history.specs.Standing.{lowestUnused, limitsNow, isAbout, isAboutLink, standing}
+use Rattle.pool_history.specs.Since.{Since, costSince, notRemoved}
 use Rattle.pool_history.specs.Replies.{addRefusalsBy, namedRefusalsBy, templateRefusalsBy, refusalsBy, eventsOf, callsOf}
 use Rattle.pool_history.proofs.Plain.{parent-is}
 use Rattle.pool_history.proofs.Kept.{Kept, well-kept}
 use Rattle.pool_history.proofs.Steps as steps
 use Rattle.pool_history.proofs.Places.{At, at-slot}
 use Rattle.pool_history.proofs.Account.{account}
-use Rattle.pool_history.proofs.Follows.{Follows, follows, follows-plain, follows-pool, follows-table}
+use Rattle.pool_history.proofs.Follows.{Follows, follows, follows-plain, follows-length, follows-pool, follows-table}
 use Rattle.pool_history.proofs.Replies as replies
+use Rattle.pool_history.proofs.Since.{since-stands, since-holds, since-linked, stands-since}
 use Rattle.pool_history.proofs.Others.{Same, other-same, link-same, ends-stay}
+
+-- a history goes on with a call that succeeds
+pub went : {lent : List ℕ} {es : List Event} {t : List ℕ} → History lent es t → (c : Call) → answerTo t c ≡ 0
+    → History lent (record { call = c; done = true } ∷ es) (tableAfter t c)
+went {lent} {es} {t} h c z = subst (λ (k : ℕ). History lent (record { call = c; done = eqb k 0 } ∷ es) (tableAfter t c)) z (next c h)
 
 module _ {lent : List ℕ} {es : List Event} {t : List ℕ} (h : History lent es t) where
   -- how many slots the pool has
@@ -80,12 +89,24 @@ module _ {lent : List ℕ} {es : List Event} {t : List ℕ} (h : History lent es
 
   -- ---- "Which entries and links stand, and what each entry holds, follows from the calls by 01's module 8."
 
-  -- the entries
+  -- an entry is in the pool exactly where it stands by the events: where some add of its txid succeeded since the last making or clear and
+  -- no remove of it succeeded after
   pub entry-stands : (x : Txid) → isIn (poolOf t) x ≡ stands es x
   entry-stands = replies.follows-in so
 
+  pub entry-since : (x : Txid) → isIn (poolOf t) x ≡ true → Since es x
+  entry-since x i = stands-since es x (sym (entry-stands x) ∙ i)
+
+  pub since-entry : (x : Txid) → Since es x → isIn (poolOf t) x ≡ true
+  since-entry x u = entry-stands x ∙ since-stands es x u
+
+  -- "An entry keeps what its add gave it, save a cost set later."
   pub entry-holds : (x : Txid) → stands es x ≡ true → slotAt (poolOf t) (slotOf (poolOf t) x) .entry ≡ held es x
   entry-holds x e = so .right .told x (slotOf (poolOf t) x) (replies.follows-at so x e) .held
+
+  pub holds-since : (x : Txid) (u : Since es x)
+      → slotAt (poolOf t) (slotOf (poolOf t) x) .entry ≡ withCost (costSince x (u .newer) (u .entry .cost)) (u .entry)
+  holds-since x u = entry-holds x (since-stands es x u) ∙ since-holds es x u
 
   -- "Adding takes the lowest free slot; a freed slot is free."
   pub entry-place : (x : Txid) → stands es x ≡ true → slotOf (poolOf t) x ≡ board n es .place x
@@ -102,7 +123,8 @@ module _ {lent : List ℕ} {es : List Event} {t : List ℕ} (h : History lent es
       let a : At (poolOf t) x s = record { there = o; named = refl } in
       (so .right .told x s a .stands, at-slot (follows-plain so) a)
 
-  -- the links
+  -- "A listed parent not in the pool, the own txid, or a repeat is ignored. Every other listed parent is linked, both ways, and a link stands
+  -- until one of its ends is removed or the pool is cleared or made anew."
   pub link-stands : (x y : Txid) → stands es x ≡ true → stands es y ≡ true
       → isParent (poolOf t) (slotOf (poolOf t) x) (slotOf (poolOf t) y) ≡ linked es x y
   link-stands x y u v =
@@ -112,6 +134,12 @@ module _ {lent : List ℕ} {es : List Event} {t : List ℕ} (h : History lent es
 
   pub link-ends : (x y : Txid) → linked es x y ≡ true → (stands es x ≡ true) × (stands es y ≡ true)
   link-ends = so .right .ends
+
+  -- the child's add listed the parent, which stood then and was not the child itself, and has not been removed since
+  pub link-since : (x y : Txid) (u : Since es x) → stands es y ≡ true
+      → isParent (poolOf t) (slotOf (poolOf t) x) (slotOf (poolOf t) y)
+      ≡ ((lists (u .listed) y && (stands (u .older) y && not (sameTxid x y))) && notRemoved y (u .newer))
+  link-since x y u v = link-stands x y (since-stands es x u) v ∙ since-linked es x u y
 
   -- "The total weight equals all weights added less all removed, since the last clear or making", and the entries are as many
   pub total-stands : poolOf t .total + allRemoved weightOfEntry es ≡ allAdded weightOfEntry es
@@ -126,6 +154,9 @@ module _ {lent : List ℕ} {es : List Event} {t : List ℕ} (h : History lent es
 
   pub slots-stay : slotCount (poolOf t) ≡ n
   slots-stay = so .right .count
+
+  pub length-stays : length t ≡ length lent
+  length-stays = follows-length so
 
   -- all of it at once, word by word
   pub pool-stands : poolOf t ≡ standing n es
