@@ -21,6 +21,7 @@ pub mod Follows
 pub mod Replies
 pub mod Others
 pub mod Since
+pub mod Kin
 pub mod Theorems
 pub mod Refuted
 pub mod Example

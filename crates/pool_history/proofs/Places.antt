@@ -1,13 +1,14 @@
 -- Where a txid stands in a pool whose txids are distinct: one slot, which a look-up finds. Assumes nothing.
 use mathlib.Core.Path.{_≡_, sym, ap, ap₂, _∙_}
-use mathlib.Core.Bool.{true, false, not, _&&_}
+use mathlib.Core.Bool.{Bool, true, false, not, _&&_}
 use mathlib.Core.List.{List}
 use Prim.Native.Nat.{ℕ, _*_}
 use native.Mathlib.Omega.{arith}
 use lib.Dec.{eqb}
-use borrow.Author.Tests.{eq-eqb, eqb-true}
+use borrow.Author.Tests.{eq-eqb, eqb-true, not-true}
+use Rattle.lists.specs.Below.{firstFrom}
 use Rattle.lists.proofs.Below.{any-at, any-ext, first-has}
-use Rattle.lists.proofs.Bools.{cases, and-both, and-right, is-false, true-together}
+use Rattle.lists.proofs.Bools.{and-both, is-false, true-together}
 use Rattle.txids.specs.declared.Txid.{Txid}
 use Rattle.txids.specs.Txids.{sameTxid, txidAt, listedCount}
 use Rattle.txids.proofs.Theorems.{same-equal, equal-same}
@@ -46,6 +47,24 @@ module _ (p : Pool) (x : Txid) where
       let l = occupied-in p s (h .there) in
       any-at (holds p x) (slotCount p) 0 s (omega arith) (omega arith) (ap₂ _&&_ (h .there) (equal-same (slotAt p s .entry .txid) x (h .named)))
 
+-- where a listed txid has a place, it stands there, and is not the own one
+place-at : (p : Pool) (own x : Txid) (s : ℕ) → isPlaceOf p own x s ≡ true → At p x s × (sameTxid own x ≡ false)
+unfolding isPlaceOf
+place-at p own x s e =
+    let u = and-both (not (sameTxid x own)) (isIn p x && eqb (slotOf p x) s) e in
+    let v = and-both (isIn p x) (eqb (slotOf p x) s) (u .1) in
+    let z : slotOf p x ≡ s = eqb-true (slotOf p x) s (v .1) in
+    (rw z at (in-at p x (v .0)), txids-flip own x ∙ not-true (sameTxid x own) (u .0))
+
+pub listed-other : (p : Pool) (own : Txid) (listed : List ℕ) (y : Txid) (s : ℕ) → At p y s → isListed p own listed s ≡ true
+    → sameTxid own y ≡ false
+unfolding isListed
+listed-other p own listed y s a e =
+    let f : ℕ → Bool = λ j. isPlaceOf p own (txidAt listed (32 * j)) s in
+    let x : Txid = txidAt listed (32 * firstFrom f (listedCount listed) 0) in
+    let u = place-at p own x s (first-has f (listedCount listed) 0 e) in
+    ap (sameTxid own) (sym (a .named) ∙ u .0 .named) ∙ u .1
+
 module _ {p : Pool} (h : Plain p) where
   pub at-one : {x : Txid} {s u : ℕ} → At p x s → At p x u → s ≡ u
   at-one {x} {s} {u} a b = h .distinct s u (a .there) (b .there) (a .named ∙ sym (b .named))
@@ -62,10 +81,8 @@ module _ {p : Pool} (h : Plain p) where
       let t : Txid = txidAt listed (32 * j) in
       true-together (isPlaceOf p own t b) (sameTxid t y)
       (λ e.
-      let u = and-both (isIn p t) (eqb (slotOf p t) b) (and-right (not (sameTxid t own)) (isIn p t && eqb (slotOf p t) b) e) in
-      let i = in-at p t (u .0) in
-      let z : slotOf p t ≡ b = eqb-true (slotOf p t) b (u .1) in
-      equal-same t y (sym (i .named) ∙ ap (λ (s : ℕ). slotAt p s .entry .txid) z ∙ a .named))
+      let u = place-at p own t b e in
+      equal-same t y (sym (u .0 .named) ∙ a .named))
       (λ e.
       let z : t ≡ y = same-equal t y e in
       rw z

@@ -21,11 +21,11 @@ use Rattle.pool_table.specs.declared.Limits.{Limits}
 use Rattle.pool_table.specs.Pool.{Pool, slotAt, slotCount, occupied, entries}
 use Rattle.pool_table.specs.Words.{poolOf, tableOf}
 use Rattle.pool_table.specs.Changes.{withCost}
-use Rattle.pool_table.specs.Links.{isParent, isChild, inCluster, countOf, weightOf}
+use Rattle.pool_table.specs.Links.{isParent, isChild, inCluster, inClusters, countOf, weightOf}
 use Rattle.pool_table.specs.WellFormed.{wellFormed}
 use Rattle.pool_rules.specs.declared.Placed.{Placed}
 use Rattle.pool_rules.specs.declared.Totals.{Totals}
-use Rattle.pool_rules.specs.Module8.{isIn, slotOf}
+use Rattle.pool_rules.specs.Module8.{isIn, slotOf, isListed}
 use Rattle.pool_rules.specs.Calls.{noSlot, placed, makeAnswer, afterMake, addReply, afterAdd, namedReply, afterRemove, afterSetCost, clearAnswer}
 use Rattle.pool_rules.specs.Calls.{afterClear, totalsReply}
 use Rattle.template_rules.specs.Filling as filling
@@ -36,8 +36,9 @@ use Rattle.pool_history.specs.History.{Call, template, answerTo, tableAf
 use Rattle.pool_history.specs.Standing.{stands, held, lists, linked, allAdded, allRemoved, weightOfEntry, oneEach, howMany, totalWeight, board}
 use Rattle.pool_history.specs.Standing.{lowestUnused, limitsNow, isAbout, isAboutLink, standing}
 use Rattle.pool_history.specs.Since.{Since, costSince, notRemoved}
+use Rattle.pool_history.specs.Kin.{Kin, Joining}
 use Rattle.pool_history.specs.Replies.{addRefusalsBy, namedRefusalsBy, templateRefusalsBy, refusalsBy, eventsOf, callsOf}
-use Rattle.pool_history.proofs.Plain.{parent-is}
+use Rattle.pool_history.proofs.Plain.{parent-names, parent-is}
 use Rattle.pool_history.proofs.Kept.{Kept, well-kept}
 use Rattle.pool_history.proofs.Steps as steps
 use Rattle.pool_history.proofs.Places.{At, at-slot}
@@ -45,6 +46,7 @@ use Rattle.pool_history.proofs.Account.{account}
 use Rattle.pool_history.proofs.Follows.{Follows, follows, follows-plain, follows-length, follows-pool, follows-table}
 use Rattle.pool_history.proofs.Replies as replies
 use Rattle.pool_history.proofs.Since.{since-stands, since-holds, since-linked, stands-since}
+use Rattle.pool_history.proofs.Kin as kin
 use Rattle.pool_history.proofs.Others.{Same, other-same, link-same, ends-stay}
 
 -- a history goes on with a call that succeeds
@@ -141,6 +143,11 @@ module _ {lent : List ℕ} {es : List Event} {t : List ℕ} (h : History lent es
       ≡ ((lists (u .listed) y && (stands (u .older) y && not (sameTxid x y))) && notRemoved y (u .newer))
   link-since x y u v = link-stands x y (since-stands es x u) v ∙ since-linked es x u y
 
+  -- no slot names another without such a link
+  pub link-holds : (a b : ℕ) → isParent (poolOf t) a b ≡ true
+      → linked es (slotAt (poolOf t) a .entry .txid) (slotAt (poolOf t) b .entry .txid) ≡ true
+  link-holds a b e = kin.parent-link so a b (parent-names (poolOf t) a b e)
+
   -- "The total weight equals all weights added less all removed, since the last clear or making", and the entries are as many
   pub total-stands : poolOf t .total + allRemoved weightOfEntry es ≡ allAdded weightOfEntry es
   total-stands = so .right .total
@@ -174,6 +181,22 @@ module _ {lent : List ℕ} {es : List Event} {t : List ℕ} (h : History lent es
   -- which refusal, in terms of what stands
   pub answer-stands : (c : Call) → answerTo t c ≡ answerOf (refusalsBy n es c)
   answer-stands = replies.follows-answer so
+
+  -- the clusters of 8 and 9 are those of the links that stand: one entry's, and those of a newcomer's listed parents together
+  pub cluster-kin : (x y : Txid) → stands es x ≡ true → stands es y ≡ true
+      → inCluster (poolOf t) (slotOf (poolOf t) x) (slotOf (poolOf t) y) ≡ true → Kin es x y
+  cluster-kin = kin.follows-kin so
+
+  pub kin-cluster : (x y : Txid) → Kin es x y → inCluster (poolOf t) (slotOf (poolOf t) x) (slotOf (poolOf t) y) ≡ true
+  kin-cluster = kin.kin-follows so
+
+  pub clusters-joining : (own : Txid) (listed : List ℕ) (y : Txid) → stands es y ≡ true
+      → inClusters (poolOf t) (isListed (poolOf t) own listed) (slotOf (poolOf t) y) ≡ true → Joining es own listed y
+  clusters-joining = kin.follows-joining so
+
+  pub joining-clusters : (own : Txid) (listed : List ℕ) (y : Txid) → Joining es own listed y
+      → inClusters (poolOf t) (isListed (poolOf t) own listed) (slotOf (poolOf t) y) ≡ true
+  joining-clusters = kin.joining-follows so
 
   -- "add, remove and set-cost (each answers the slot)"
   pub add-answers : (e : Entry) (listed : List ℕ)
