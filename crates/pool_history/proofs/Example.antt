@@ -119,12 +119,12 @@ module _ (lent : List ℕ) (long : length lent ≡ 82) where
 
   -- ---- what it leaves
 
-  -- "a made-up number of entries or total weight"
+  -- no "made-up number of entries or total weight"
   pub two-entries : totalsReply t3 ≡ record { answer = 0; entries = 2; weight = 1200 }
   unfolding howMany totalWeight allAdded allRemoved held
   two-entries = totals-answers after-third
 
-  -- "Links or entries lost": the child names its parent
+  -- no "links .. lost": the child names its parent
   pub child-linked : isParent (poolOf t3) (slotOf (poolOf t3) (child .txid)) (slotOf (poolOf t3) (parent .txid)) ≡ true
   unfolding stands linked lists anyFrom sameTxid same txidAt wordAt numberOf
   child-linked = link-stands after-third (child .txid) (parent .txid) refl refl
@@ -134,12 +134,12 @@ module _ (lent : List ℕ) (long : length lent ≡ 82) where
   unfolding stands linked lists anyFrom sameTxid same txidAt wordAt numberOf
   parent-not = link-stands after-third (parent .txid) (child .txid) refl refl
 
-  -- "a clear that forgets nothing"
+  -- a clear that forgets nothing is another
   pub clear-forgets : tableAfter t3 clear ≡ t3 → ⊥
   unfolding allAdded allRemoved
   clear-forgets e = omega (arith, ap (λ (t : List ℕ). entries (poolOf t)) e, cleared-empty after-third, count-stands after-third)
 
-  -- ---- "a template that is always empty": with the parent alone in the pool, it is the template
+  -- ---- a template that is always empty is another: with the parent alone in the pool, it is the template
 
   parent-at : slotOf (poolOf t2) (parent .txid) ≡ 0
   unfolding stands sameTxid same board lowestUnused firstFrom

@@ -64,7 +64,7 @@ some-count l e =
 -- ---- after any history
 
 module _ {lent : List ℕ} {es : List Event} {t : List ℕ} (h : History lent es t) where
-  -- "a pool that refuses every add": an add without parents is taken wherever its numbers are in range, its txid does not stand, a slot is
+  -- not a pool that refuses every add: an add without parents is taken wherever its numbers are in range, its txid does not stand, a slot is
   -- free and it is not too large by itself
   pub lone-taken : (e : Entry) → entryInRange e ≡ true → stands es (e .txid) ≡ false → howMany es < slotsOn lent
       → virtualSize (e .weight .0) ≤ limitsNow es .size → answerTo t (add e []) ≡ 0
@@ -77,7 +77,7 @@ module _ {lent : List ℕ} {es : List Event} {t : List ℕ} (h : History lent es
       ∙ rw (ranged, absent, ne-eqb (howMany es) (slotsOn lent) (λ z. omega arith), count-alone p _ none, size-alone p _ none (e .weight .0))
       (rw (le-ltb (limitsNow es .count) 1 (omega arith), le-ltb (limitsNow es .size) (virtualSize (e .weight .0)) (omega arith)))
 
-  -- "Links or entries lost or invented along the way": what an add that is taken leaves. All else is as it was: `other-stays`, `other-keeps`
+  -- not "links or entries lost or invented along the way": what an add that is taken leaves. All else is as it was: `other-stays`, `other-keeps`
   -- and `other-link`
   module _ (e : Entry) (listed : List ℕ) (done : answerTo t (add e listed) ≡ 0) where
     abbrev new : Pool
@@ -104,7 +104,7 @@ module _ {lent : List ℕ} {es : List Event} {t : List ℕ} (h : History lent es
         link-stands (went h (add e listed) done) (e .txid) y (rw own) (rw (u, or-true (sameTxid (e .txid) y)))
         ∙ rw (own, u, other) (and-true (lists listed y))
 
-  -- "a remove that removes a second entry": there is one entry less, and it is the named one
+  -- not a remove that removes a second entry: there is one entry less, and it is the named one
   module _ (x : Txid) (done : answerTo t (remove x) ≡ 0) where
     pub removed-one : entries (poolOf t) ≡ suc (entries (poolOf (tableAfter t (remove x))))
     unfolding allAdded allRemoved
@@ -114,12 +114,12 @@ module _ {lent : List ℕ} {es : List Event} {t : List ℕ} (h : History lent es
     unfolding stands
     removed-gone = entry-stands (went h (remove x) done) x ∙ rw (equal-same x x refl)
 
-  -- "a clear that forgets nothing"
+  -- not a clear that forgets nothing
   pub cleared-empty : entries (poolOf (tableAfter t clear)) ≡ 0
   unfolding allAdded allRemoved refusalsBy answerOf
   cleared-empty = omega (arith, count-stands (went h clear (answer-stands h clear)))
 
-  -- "a template that is always empty": where one entry stands that fits, it is the template
+  -- not a template that is always empty: where one entry stands that fits, it is the template
   pub template-lone : (w : filling.Settings) (x : Txid) → stands es x ≡ true → ((y : Txid) → stands es y ≡ true → y ≡ x)
       → Fits (poolOf t) w (slotOf (poolOf t) x) → filling.template (poolOf t) w ≡ slotOf (poolOf t) x ∷ []
   template-lone w x i one fits =

@@ -24,8 +24,8 @@ comesOrGoes x (template w room) = false
 abbrev pub neither : Txid → List Event → Bool
 neither x es = allOf (λ e. not (e .done && comesOrGoes x (e .call))) es
 
--- "some add of its txid succeeded since the last making or clear and no remove of it succeeded after": that add, the events after it and
--- those before it, the latest first
+-- an add of this txid succeeded, and since then no making, no clear and no remove of it: that add, the events after it and those before it,
+-- the latest first
 pub record Since (es : List Event) (x : Txid) : Type 0 where
   pub entry : Entry
   pub listed : List ℕ
@@ -35,7 +35,7 @@ pub record Since (es : List Event) (x : Txid) : Type 0 where
   pub named : entry .txid ≡ x
   pub kept : neither x newer ≡ true
 
--- "the cost of that add or of the last set-cost that succeeded since"
+-- "save a cost set later": the cost that the add gave, or that of the last set-cost of it that succeeded since
 abbrev pub costAfter : Txid → Call → ℕ → ℕ
 costAfter x (make l) before = before
 costAfter x (add e listed) before = before

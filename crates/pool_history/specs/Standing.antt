@@ -17,7 +17,7 @@ use Rattle.pool_history.specs.History.{Call, make, add, remove, setCost,
 
 -- ---- which entries stand
 
--- "an add of its txid succeeded since the last making or clear and no remove of it succeeded after"
+-- those of which an add succeeded since the last making or clear and no remove succeeded after
 abbrev pub standsAfter : Call → Txid → Bool → Bool
 standsAfter (make l) x before = false
 standsAfter (add e listed) x before = sameTxid (e .txid) x || before
