@@ -33,6 +33,7 @@ pub fn write(folder: &Path) -> Result<(), String> {
     withheld(&mut cases);
     deltas(&mut cases);
     additions(&mut cases);
+    traces(&mut cases);
     exact(&mut cases);
     refusals(&mut cases);
     full(&mut cases);
@@ -393,6 +394,42 @@ fn additions(cases: &mut Cases) {
     cases.expect([ALL, 0, 0], &[0, 2, 1, 3, 4]);
     cases.expect([424, 0, 0], &[0, 2, 1, 3]);
     cases.expect([423, 0, 0], &[0, 1, 4, 2]);
+}
+
+/// A chunk that is passed over leaves no weight, no cost and no entry behind, whatever the reason.
+fn traces(cases: &mut Cases) {
+    // the second fails by its sigops, and the third fills the budget
+    cases.make(3, 0);
+    cases.add(1, 900, 400, 79_000, &[]);
+    cases.add(2, 800, 400, 1_001, &[]);
+    cases.add(3, 700, 400, 1_000, &[]);
+    cases.expect([800, 0, 0], &[0, 2]);
+    cases.expect([1_200, 0, 0], &[0, 2]);
+    // the second fails by its weight, and the third fills the sigops
+    cases.make(3, 0);
+    cases.add(1, 900, 400, 79_000, &[]);
+    cases.add(2, 8_000, 4_000, 1_000, &[]);
+    cases.add(3, 700, 400, 1_000, &[]);
+    cases.expect([800, 0, 0], &[0, 2]);
+    cases.expect([4_399, 0, 0], &[0, 2]);
+    // at one feerate a child is tried before the two parents that it brings, and fails
+    cases.make(4, 0);
+    cases.add(1, 10, 40, 1, &[]);
+    cases.add(2, 20, 80, 2, &[]);
+    cases.add(3, 100, 400, 80_000, &[1, 2]);
+    cases.expect([ALL, 0, 0], &[1, 0]);
+    cases.expect([ALL, 79_998, 0], &[1]);
+    cases.list.set_cost(3, 3);
+    cases.expect([519, 0, 0], &[1, 0]);
+    cases.expect([520, 0, 0], &[0, 1, 2]);
+    cases.mark(1, 1);
+    cases.expect([ALL, 0, 0], &[0]);
+    cases.mark(1, 0);
+    cases.mark(2, 1);
+    cases.expect([120, 79_997, 0], &[1, 0]);
+    cases.mark(2, 0);
+    cases.delta(2, -101);
+    cases.expect([120, 79_997, 0], &[1, 0]);
 }
 
 /// Where rounded rates, products of one word and sums that wrap would answer otherwise.
