@@ -1,3 +1,12 @@
+pub mod InRange
+pub mod Writing
+pub mod Ordered
+pub mod Pieces
+pub mod Clusters
+pub mod Theorems
+pub mod OneCluster
+pub mod Cutting
+pub mod Laid
 pub mod Numbers
 pub mod Order
 pub mod Tried

@@ -1,3 +1,4 @@
 pub mod Chunks
 pub mod Sorted
 pub mod Numbers
+pub mod Steps

@@ -1,5 +1,7 @@
 // The chunks of all clusters of a pool, in the order in which a template tries them: each cluster is ordered by module 6 and cut by
 // module 4 of document 01, and the best paying chunk of the whole pool comes first.
+mod cut;
+mod deltas;
 mod sort;
 
 use pool_members::Layout;
