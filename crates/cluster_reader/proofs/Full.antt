@@ -6,10 +6,11 @@ use Prim.Native.Nat.{ℕ, zero, suc, _+_, _*_, _≤_, _<_}
 use native.Mathlib.Omega.{arith}
 use lib.ListN.{length, drop, length-drop}
 use lib.IntN.{ℤ}
+use Rattle.texts.specs.Numerals.{numberOf, signedOf, isNumber, isSigned}
+use Rattle.texts.specs.Places.{behind}
 use Rattle.cluster_reader.specs.declared.Input.the-variants.{Members}
-use Rattle.cluster_reader.specs.Numerals.{numberOf, feeOf}
-use Rattle.cluster_reader.specs.Lines.{behind, longestLine, longestText, isField, valueOf}
-use Rattle.cluster_reader.specs.Reading.{feeKey, sizeKey, parentsKey, isNumber, isFee}
+use Rattle.cluster_reader.specs.Lines.{longestLine, longestText, isField, valueOf}
+use Rattle.cluster_reader.specs.Reading.{feeKey, sizeKey, parentsKey}
 use Rattle.cluster_reader.specs.Reading.{isMember, memberFee, memberSize, memberParents, nextMember, Read, refused, members, read, told, firstTold}
 use Rattle.cluster_reader.specs.Steps.{nextLine}
 use Rattle.lists.proofs.Bools.{and-both, cond-where}
@@ -22,7 +23,7 @@ unfolding isMember
 member-passes xs e =
     let size = behind 10 xs in
     let parents = behind 10 size in
-    let p = and-both (isField feeKey xs && isFee (feeOf (valueOf feeKey xs))) _ e in
+    let p = and-both (isField feeKey xs && isSigned (signedOf (valueOf feeKey xs))) _ e in
     let q = and-both (isField sizeKey size && isNumber (numberOf (valueOf sizeKey size))) _ (p .1) in
     let a = field-passes feeKey xs (and-both (isField feeKey xs) _ (p .0) .0) in
     let b = field-passes sizeKey size (and-both (isField sizeKey size) _ (q .0) .0) in

@@ -11,9 +11,10 @@ use lib.ListN.{length, length-append}
 use lib.IntN.{ℤ}
 use borrow.Author.Tests.{ltb-false}
 use Rattle.txset.specs.Sets.{positions}
-use Rattle.cluster_reader.specs.Numerals.{isNil, numberOf}
-use Rattle.cluster_reader.specs.Lines.{behind, isField, valueOf}
-use Rattle.cluster_reader.specs.Reading.{nKey, isNumber, numberIn, isMember, memberFee, memberSize, memberParents, nextMember}
+use Rattle.texts.specs.Numerals.{isNil, numberOf, isNumber, numberIn}
+use Rattle.texts.specs.Places.{behind}
+use Rattle.cluster_reader.specs.Lines.{isField, valueOf}
+use Rattle.cluster_reader.specs.Reading.{nKey, isMember, memberFee, memberSize, memberParents, nextMember}
 use Rattle.cluster_reader.specs.Reading.{Read, refused, cluster, members, read}
 use Rattle.lists.proofs.Bools.{cond-first, cond-second, cases}
 

@@ -1,5 +1,4 @@
 pub mod Copies
-pub mod Decimals
 pub mod Places
 pub mod Named
 pub mod Reading

@@ -1,14 +1,14 @@
 -- Laws of a list of positions between commas: the parts one after the other, and the word of the set that they name. Assumes nothing.
 use mathlib.Core.Path.{_≡_, refl, sym, ap, ap₂, _∙_}
-use mathlib.Core.Bool.{Bool, true, false, cond, _&&_, _||_, or-false}
+use mathlib.Core.Bool.{Bool, false, cond, _&&_, _||_, or-false}
 use mathlib.Core.Logic.{⊎-elim}
-use mathlib.Core.List.{List, [], _∷_, _++_, append-nil, append-assoc}
-use Prim.Native.Nat.{ℕ, suc, _+_, _^_, _≤_, _<_}
+use mathlib.Core.List.{List, [], _∷_}
+use Prim.Native.Nat.{ℕ, _+_, _^_, _≤_, _<_}
 use native.Mathlib.Omega.{arith}
-use lib.Dec.{eqb, ltb, leb·suc-suc}
+use lib.Dec.{eqb, ltb}
 use lib.Bits.{bitOr, or-lt}
 use lib.Pow.{pow-lt}
-use lib.ListN.{length, drop, length-drop}
+use lib.ListN.{length, drop}
 use borrow.Author.Tests.{lt-ltb, le-ltb, ne-eqb}
 use Rattle.lists.specs.Lists.{allOf}
 use Rattle.txset.specs.Sets.{has, mem, positions, isPosition}
@@ -16,37 +16,14 @@ use Rattle.txset.specs.declared.TxSet.{TxSet}
 use Rattle.lists.proofs.Numbers.{lt-or-ge}
 use Rattle.txset.proofs.Bits.{has-ext, has-or, has-pow, has-nil}
 use Rattle.txset.proofs.Words.{hasIn-low}
-use Rattle.cluster_reader.specs.declared.numerals.Number.{Number}
-use Rattle.cluster_reader.specs.declared.numerals.Number.the-variants.{Value, Malformed}
+use Rattle.texts.specs.declared.numerals.Number.{Number}
+use Rattle.texts.specs.declared.numerals.Number.the-variants.{Value, Malformed}
+use Rattle.texts.specs.Numerals.{numberOf, numberIn}
+use Rattle.texts.specs.Places.{before, placeOf, split}
+use Rattle.texts.proofs.Places.{split-first, split-last, split-more}
 use Rattle.cluster_reader.specs.declared.Parents.the-variants as parents
-use Rattle.cluster_reader.specs.Numerals.{numberOf}
-use Rattle.cluster_reader.specs.Lines.{before, behind}
-use Rattle.cluster_reader.specs.Reading.{numberIn, partsFrom, parts, areNumbers, wordOf}
-use Rattle.cluster_reader.specs.Steps.{placeOf, parentsIn}
-use Rattle.cluster_reader.proofs.Places.{place-behind}
-
--- ---- the first part, and those behind its comma
-
-parts-cut : (part xs : List ℕ)
-    → partsFrom part xs ≡ (part ++ before 44 xs) ∷ cond (ltb (length (before 44 xs)) (length xs)) (partsFrom [] (behind 44 xs)) []
-unfolding partsFrom before behind
-parts-cut part [] = ap (λ (l : List ℕ). l ∷ []) (sym (append-nil part))
-parts-cut part (b ∷ bs) = go (eqb b 44) (parts-cut (part ++ (b ∷ [])) bs)
-  where
-    go : (t : Bool)
-        → partsFrom (part ++ (b ∷ [])) bs
-        ≡ ((part ++ (b ∷ [])) ++ before 44 bs) ∷ cond (ltb (length (before 44 bs)) (length bs)) (partsFrom [] (behind 44 bs)) []
-        → cond t (part ∷ partsFrom [] bs) (partsFrom (part ++ (b ∷ [])) bs)
-        ≡ (part ++ cond t [] (b ∷ before 44 bs))
-        ∷ cond (ltb (length (cond t [] (b ∷ before 44 bs))) (suc (length bs))) (partsFrom [] (drop (suc (length (cond t [] (b ∷ before 44 bs)))) (b ∷ bs))) []
-    go true h = rw (append-nil, lt-ltb 0 (suc (length bs)) (omega arith))
-    go false h = h ∙ rw (append-assoc, leb·suc-suc (suc (length (before 44 bs))) (length bs))
-
-parts-last : (xs : List ℕ) → length xs ≤ length (before 44 xs) → partsFrom [] xs ≡ before 44 xs ∷ []
-parts-last xs l = parts-cut [] xs ∙ rw (le-ltb (length (before 44 xs)) (length xs) l)
-
-parts-more : (xs : List ℕ) → length (before 44 xs) < length xs → partsFrom [] xs ≡ before 44 xs ∷ partsFrom [] (behind 44 xs)
-parts-more xs l = parts-cut [] xs ∙ rw (lt-ltb (length (before 44 xs)) (length xs) l)
+use Rattle.cluster_reader.specs.Reading.{parts, areNumbers, wordOf}
+use Rattle.cluster_reader.specs.Steps.{parentsIn}
 
 -- ---- the word of a set
 
@@ -89,8 +66,8 @@ word-next w p l ls e = ap (λ (n : Number). wordOf (wordWith w (numberIn n)) ls)
 pub record Named (text : List ℕ) (set : TxSet) (from : ℕ) : Type 0 where
   pub within : from ≤ length text
   pub fits : set .word < 2 ^ 64
-  pub numbers : areNumbers (parts text) ≡ areNumbers (partsFrom [] (drop from text))
-  pub word : wordOf 0 (parts text) ≡ wordOf (set .word) (partsFrom [] (drop from text))
+  pub numbers : areNumbers (parts text) ≡ areNumbers (split 44 (drop from text))
+  pub word : wordOf 0 (parts text) ≡ wordOf (set .word) (split 44 (drop from text))
 
 pub nothing : (text : List ℕ) (s : TxSet) → length text ≡ 0 → s .word ≡ 0 → parentsIn text ≡ parents.Set s
 unfolding parentsIn parts areNumbers allOf wordOf
@@ -104,7 +81,7 @@ start (x ∷ text) s n w = record {
   within = omega arith;
   fits = omega arith;
   numbers = refl;
-  word = ap (λ (m : ℕ). wordOf m (partsFrom [] (x ∷ text))) (sym w);
+  word = ap (λ (m : ℕ). wordOf m (split 44 (x ∷ text))) (sym w);
 }
 
 module _ {text : List ℕ} {set : TxSet} {from : ℕ} (s : Named text set from) where
@@ -114,28 +91,22 @@ module _ {text : List ℕ} {set : TxSet} {from : ℕ} (s : Named text set from) 
   -- a part that is no number
   pub bad-part : numberOf (before 44 rest) ≡ Malformed → parentsIn text ≡ parents.Malformed
   unfolding parentsIn areNumbers allOf
-  bad-part e =
-      rw (s .numbers, parts-cut [] rest, e)
+  bad-part e = rw (s .numbers, split-first 44 rest, e)
 
   module _ (p : ℕ) (is : numberOf (before 44 rest) ≡ Value p) (t : TxSet) (fits : t .word < 2 ^ 64) (with : t .word ≡ wordWith (set .word) p) where
     -- the last part
     pub last : placeOf 44 text from ≡ length text → parentsIn text ≡ parents.Set t
     unfolding parentsIn areNumbers allOf wordOf
     last e =
-        let l : length rest ≤ length (before 44 rest) = omega (arith, length-drop from text) in
-        rw (s .numbers, s .word, parts-last rest l, is)
+        rw (s .numbers, s .word, split-last 44 text from e, is)
         (ap {B = parents.the-data} (λ (n : ℕ). parents.Set (record { word = n })) (sym with))
 
     -- a part with a comma behind it
     pub turn : placeOf 44 text from < length text → Named text t (placeOf 44 text from + 1)
     unfolding areNumbers allOf
-    turn h =
-        let l : length (before 44 rest) < length rest = omega (arith, length-drop from text) in
-        record {
-          within = omega arith;
-          fits = fits;
-          numbers = s .numbers ∙ rw (parts-more rest l, is, place-behind 44 text from);
-          word =
-              s .word ∙ ap (wordOf (set .word)) (parts-more rest l) ∙ word-next (set .word) p (before 44 rest) (partsFrom [] (behind 44 rest)) is
-              ∙ rw (place-behind 44 text from, with);
-        }
+    turn h = record {
+      within = omega arith;
+      fits = fits;
+      numbers = s .numbers ∙ rw (split-more 44 text from h, is);
+      word = s .word ∙ rw (split-more 44 text from h, with) (word-next (set .word) p (before 44 rest) _ is);
+    }

@@ -2,41 +2,22 @@
 use mathlib.Core.Path.{_≡_, refl, sym, ap, ap₂, _∙_}
 use mathlib.Core.Bool.{true, false, and-false}
 use mathlib.Core.List.{List, [], _∷_, _++_}
-use Prim.Native.Nat.{ℕ, zero, suc, _+_, _-_, _≤_, _<_, suc-le-suc}
-use native.Mathlib.Nat.{sub-zero, zero-sub, suc-sub-suc, add-zero, add-suc, suc-add, not-suc-le-zero, le-of-suc-le-suc}
+use Prim.Native.Nat.{ℕ, zero, suc, _+_, _-_, _≤_, _<_}
+use native.Mathlib.Nat.{sub-zero, zero-sub, suc-sub-suc}
 use native.Mathlib.Numerals.{add-one}
 use native.Mathlib.Omega.{arith}
 use lib.Dec.{eqb, ltb, leb}
 use lib.ListN.{length, getD, take, drop, drop-of-length-le, length-drop, length-append}
 use lib.Seq.{drop-cons, drop-drop, take-nil}
 use borrow.Author.Tests.{le-leb, lt-leb, lt-ltb, le-ltb, eq-eqb, ne-eqb, ltb-true, leb-true}
-use Rattle.lists.proofs.Bools.{clash, and-both, cond-first, cond-second, cases, cond-where}
+use Rattle.lists.proofs.Bools.{clash, and-both, cond-first, cond-second}
+use Rattle.texts.specs.Places.{before, behind, placeOf}
+use Rattle.texts.proofs.Places.{before-take, before-append, before-grows, place-behind}
 use Rattle.cluster_reader.specs.declared.lines.Line.the-variants.{Ends, Malformed}
 use Rattle.cluster_reader.specs.declared.lines.Value.the-variants as value
 use Rattle.cluster_reader.specs.declared.lines.Span.{Span}
-use Rattle.cluster_reader.specs.Lines.{before, behind, isLine, longestLine, starts, isField, valueOf}
-use Rattle.cluster_reader.specs.Steps.{placeOf, lineAt, fieldAt, hasEnd}
-
--- ---- the place of a byte
-
-before-le : (b : ℕ) (xs : List ℕ) → length (before b xs) ≤ length xs
-unfolding before
-before-le b [] = omega arith
-before-le b (x ∷ xs) =
-    cond-where (λ (l : List ℕ). length l ≤ suc (length xs)) (eqb x b) (λ _. omega arith) (λ _. omega (arith, before-le b xs))
-
-module _ (b : ℕ) (text : List ℕ) (i : ℕ) where
-  pub place-end : length text ≤ i → placeOf b text i ≡ i
-  unfolding before
-  place-end l = rw (drop-of-length-le text l) (add-zero i)
-
-  pub place-here : i < length text → getD text i 0 ≡ b → placeOf b text i ≡ i
-  unfolding before
-  place-here l e = rw (drop-cons text i 0 l, eq-eqb (getD text i 0) b e) (add-zero i)
-
-  pub place-turn : i < length text → (getD text i 0 ≡ b → ⊥) → placeOf b text i ≡ placeOf b text (i + 1)
-  unfolding before
-  place-turn l n = rw (drop-cons text i 0 l, ne-eqb (getD text i 0) b n, add-one) (add-suc i _ ∙ sym (suc-add i _))
+use Rattle.cluster_reader.specs.Lines.{isLine, longestLine, starts, isField, valueOf}
+use Rattle.cluster_reader.specs.Steps.{lineAt, fieldAt, hasEnd}
 
 -- ---- lines
 
@@ -121,29 +102,6 @@ drop-take (suc k) zero l = rw (zero-sub (suc k))
 drop-take (suc k) (suc n) [] = sym (take-nil (suc n - suc k))
 drop-take (suc k) (suc n) (x ∷ l) = drop-take k n l ∙ ap (λ (m : ℕ). take m (drop k l)) (sym (suc-sub-suc n k))
 
-before-take : (b : ℕ) (xs : List ℕ) → take (length (before b xs)) xs ≡ before b xs
-unfolding before
-before-take b [] = refl
-before-take b (x ∷ xs) =
-    cond-where (λ (l : List ℕ). take (length l) (x ∷ xs) ≡ l) (eqb x b) (λ _. refl) (λ _. ap (λ (l : List ℕ). x ∷ l) (before-take b xs))
-
-module _ (b : ℕ) (text : List ℕ) (from : ℕ) where
-  -- what stands before the place, and behind it
-  pub place-before : take (placeOf b text from - from) (drop from text) ≡ before b (drop from text)
-  place-before =
-      let e : placeOf b text from - from ≡ length (before b (drop from text)) = omega arith in
-      ap (λ (n : ℕ). take n (drop from text)) e ∙ before-take b (drop from text)
-
-  pub place-behind : drop (placeOf b text from + 1) text ≡ behind b (drop from text)
-  unfolding behind
-  place-behind =
-      let e : from + suc (length (before b (drop from text))) ≡ placeOf b text from + 1 = omega arith in
-      sym (drop-drop (suc (length (before b (drop from text)))) from text ∙ ap (λ (n : ℕ). drop n text) e)
-
-  -- it is within the text
-  pub place-le : from ≤ length text → placeOf b text from ≤ length text
-  place-le l = omega (arith, before-le b (drop from text), length-drop from text)
-
 -- ---- a line that is of its form
 
 pub record Whole (text : List ℕ) (from end : ℕ) : Type 0 where
@@ -220,18 +178,6 @@ module _ (key text : List ℕ) (from : ℕ) {xs : List ℕ} (here : drop from te
       ap (isField key) (sym here) ∙ cond-second (isField key (drop from text)) h (λ e. let z : _≡_ {A = ℕ} 0 1 = cc in omega arith) .0
 
 -- ---- a text that goes on: a first line that is whole stays, and one that is not stays as long at least
-
-before-append : (b : ℕ) (xs ys : List ℕ) → length (before b xs) < length xs → before b (xs ++ ys) ≡ before b xs
-unfolding before
-before-append b [] ys h = absurd (omega arith)
-before-append b (x ∷ xs) ys h =
-    cases (eqb x b) (λ e. rw e) (λ e. rw e (ap (λ (l : List ℕ). x ∷ l) (before-append b xs ys (le-of-suc-le-suc (rw e at h)))))
-
-before-grows : (b : ℕ) (xs ys : List ℕ) → length xs ≤ length (before b xs) → length xs ≤ length (before b (xs ++ ys))
-unfolding before
-before-grows b [] ys h = omega arith
-before-grows b (x ∷ xs) ys h =
-    cases (eqb x b) (λ e. absurd (not-suc-le-zero (rw e at h))) (λ e. rw e (suc-le-suc (before-grows b xs ys (le-of-suc-le-suc (rw e at h)))))
 
 -- all that is asked of a first line
 pub record Same (key xs ys : List ℕ) : Type 0 where

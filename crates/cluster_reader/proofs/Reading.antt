@@ -16,21 +16,23 @@ use Rattle.txset.specs.Sets.{positions, setWords}
 use Rattle.lists.proofs.Numbers.{lt-or-ge}
 use Rattle.lists.proofs.Bools.{and-both, cond-first, cond-second}
 use Rattle.txset.specs.declared.TxSet.{TxSet}
-use Rattle.cluster_reader.specs.declared.numerals.Number.the-variants as number
-use Rattle.cluster_reader.specs.declared.numerals.Fee.the-variants as fee
+use Rattle.texts.specs.declared.numerals.Number.the-variants as number
+use Rattle.texts.specs.declared.numerals.Signed.the-variants as signed
+use Rattle.texts.specs.Numerals.{numberOf, signedOf, isNumber, numberIn, isSigned}
+use Rattle.texts.specs.Places.{before, behind}
+use Rattle.texts.proofs.Places.{place-behind}
 use Rattle.cluster_reader.specs.declared.Input.{Input}
 use Rattle.cluster_reader.specs.declared.Input.the-variants as input
 use Rattle.cluster_reader.specs.declared.Member.the-variants as member
 use Rattle.cluster_reader.specs.declared.MemberLines.{MemberLines}
 use Rattle.cluster_reader.specs.declared.Parents.the-variants as parents
-use Rattle.cluster_reader.specs.Numerals.{numberOf, feeOf}
-use Rattle.cluster_reader.specs.Lines.{before, behind, longestLine, isField, valueOf}
-use Rattle.cluster_reader.specs.Reading.{nKey, feeKey, sizeKey, parentsKey, isNumber, numberIn, isFee, parts, areNumbers, wordOf}
+use Rattle.cluster_reader.specs.Lines.{longestLine, isField, valueOf}
+use Rattle.cluster_reader.specs.Reading.{nKey, feeKey, sizeKey, parentsKey, parts, areNumbers, wordOf}
 use Rattle.cluster_reader.specs.Reading.{isMember, memberFee, memberSize, memberParents, nextMember, Read, refused, cluster, members, read}
 use Rattle.cluster_reader.specs.Reading.{Told, told, readTold, firstTold}
 use Rattle.cluster_reader.specs.Calls.{feesAfter, sizesAfter, parentsAfter, Decided, isDecided}
 use Rattle.cluster_reader.specs.Steps.{nextLine, hasEnd, memberAt, parentsIn}
-use Rattle.cluster_reader.proofs.Places.{Field, field-inside, field-short, place-behind, goes-on, too-long}
+use Rattle.cluster_reader.proofs.Places.{Field, field-inside, field-short, goes-on, too-long}
 
 -- ---- the first line
 
@@ -65,7 +67,7 @@ module _ (text : List ℕ) (from : ℕ) where
   parentsLine = behind 10 sizeLine
 
   abbrev feeTest : Bool
-  feeTest = isField feeKey feeLine && isFee (feeOf (valueOf feeKey feeLine))
+  feeTest = isField feeKey feeLine && isSigned (signedOf (valueOf feeKey feeLine))
 
   abbrev sizeTest : Bool
   sizeTest = isField sizeKey sizeLine && isNumber (numberOf (valueOf sizeKey sizeLine))
@@ -88,7 +90,7 @@ module _ (text : List ℕ) (from : ℕ) where
   pub no-fee-line : isField feeKey feeLine ≡ false → memberAt text from ≡ member.Malformed
   no-fee-line e = not-fee (rw e)
 
-  pub no-fee : feeOf (valueOf feeKey feeLine) ≡ fee.Malformed → memberAt text from ≡ member.Malformed
+  pub no-fee : signedOf (valueOf feeKey feeLine) ≡ signed.Malformed → memberAt text from ≡ member.Malformed
   no-fee e = not-fee (rw (e, and-false (isField feeKey feeLine)))
 
   pub no-size-line : isField sizeKey sizeLine ≡ false → memberAt text from ≡ member.Malformed
@@ -107,7 +109,7 @@ module _ (text : List ℕ) (from : ℕ) where
       not-parents (rw (p .0, and-false (isField parentsKey parentsLine)))
 
   pub member-read : {s₁ e₁ s₂ e₂ s₃ e₃ : ℕ} (f : ℤ) (n : ℕ) (p : TxSet)
-      → Field feeKey feeLine text from s₁ e₁ → feeOf (valueOf feeKey feeLine) ≡ fee.Sats f
+      → Field feeKey feeLine text from s₁ e₁ → signedOf (valueOf feeKey feeLine) ≡ signed.Value f
       → Field sizeKey sizeLine text (e₁ + 1) s₂ e₂ → numberOf (valueOf sizeKey sizeLine) ≡ number.Value n
       → Field parentsKey parentsLine text (e₂ + 1) s₃ e₃ → parentsIn (valueOf parentsKey parentsLine) ≡ parents.Set p
       → memberAt text from ≡ member.Read (record { fee = f; size = n; parents = p; next = e₃ + 1 })

@@ -1,18 +1,11 @@
 -- Document 01, "The cluster program": its lines. Assumes nothing.
-use Prim.Native.Nat.{ℕ, suc, _+_, _*_}
-use mathlib.Core.Bool.{Bool, true, false, cond, _&&_}
+use Prim.Native.Nat.{ℕ, _+_, _*_}
+use mathlib.Core.Bool.{Bool, true, false, _&&_}
 use mathlib.Core.List.{List, [], _∷_}
 use lib.ListN.{length, drop}
 use lib.Dec.{eqb, ltb, leb}
+use Rattle.texts.specs.Places.{before}
 use Rattle.txset.specs.Sets.{positions}
-
--- what stands before the first byte b, and behind it
-unfoldable pub before : ℕ → List ℕ → List ℕ
-before b [] = []
-before b (x ∷ xs) = cond (eqb x b) [] (x ∷ before b xs)
-
-unfoldable pub behind : ℕ → List ℕ → List ℕ
-behind b xs = drop (suc (length (before b xs))) xs
 
 -- "each line ended by a newline and at most 1,024 bytes before it"
 unfoldable pub isLine : List ℕ → Bool

@@ -1,22 +1,19 @@
 -- Document 01, "The cluster program": what it reads. "`n=`, then for each position `fee=`, `size=`, `parents=` (commas, may be empty,
 -- repeats count once)". Assumes nothing.
 use Prim.Native.Nat.{ℕ, zero, suc, _^_}
-use mathlib.Core.Bool.{Bool, true, false, cond, _&&_}
+use mathlib.Core.Bool.{Bool, cond, _&&_}
 use mathlib.Core.List.{List, [], _∷_, _++_}
-use lib.Dec.{eqb, ltb}
+use lib.Dec.{ltb}
 use lib.Bits.{bitOr}
-use lib.IntN.{ℤ, pos}
+use lib.IntN.{ℤ}
 use lib.ListN.{length}
 use Rattle.lists.specs.Lists.{allOf}
 use Rattle.txset.specs.Sets.{positions}
-use Rattle.cluster_reader.specs.declared.numerals.Number.{Number}
-use Rattle.cluster_reader.specs.declared.numerals.Number.the-variants.{Value, Malformed}
-use Rattle.cluster_reader.specs.declared.numerals.Fee.{Fee}
-use Rattle.cluster_reader.specs.declared.numerals.Fee.the-variants as fee
+use Rattle.texts.specs.Numerals.{isNil, numberOf, isNumber, numberIn, signedOf, isSigned, signedIn}
+use Rattle.texts.specs.Places.{behind, split}
 use Rattle.cluster_reader.specs.declared.Input.{Input}
 use Rattle.cluster_reader.specs.declared.Input.the-variants as input
-use Rattle.cluster_reader.specs.Numerals.{isNil, numberOf, feeOf}
-use Rattle.cluster_reader.specs.Lines.{behind, isField, valueOf}
+use Rattle.cluster_reader.specs.Lines.{isField, valueOf}
 
 -- the keys, as bytes: "n=", "fee=", "size=", "parents="
 abbrev pub nKey : List ℕ
@@ -31,32 +28,10 @@ sizeKey = 115 ∷ 105 ∷ 122 ∷ 101 ∷ 61 ∷ []
 abbrev pub parentsKey : List ℕ
 parentsKey = 112 ∷ 97 ∷ 114 ∷ 101 ∷ 110 ∷ 116 ∷ 115 ∷ 61 ∷ []
 
--- whether a number is of its form, and its value
-abbrev pub isNumber : Number → Bool
-isNumber (Value v) = true
-isNumber Malformed = false
-
-abbrev pub numberIn : Number → ℕ
-numberIn (Value v) = v
-numberIn Malformed = 0
-
-abbrev pub isFee : Fee → Bool
-isFee (fee.Sats z) = true
-isFee fee.Malformed = false
-
-abbrev pub feeIn : Fee → ℤ
-feeIn (fee.Sats z) = z
-feeIn fee.Malformed = pos 0
-
--- a list cut at its commas (byte 44)
-unfoldable pub partsFrom : List ℕ → List ℕ → List (List ℕ)
-partsFrom part [] = part ∷ []
-partsFrom part (b ∷ bs) = cond (eqb b 44) (part ∷ partsFrom [] bs) (partsFrom (part ++ (b ∷ [])) bs)
-
--- "commas, may be empty": the parts of a list that is not empty
+-- "commas, may be empty": the parts of a list that is not empty, cut at its commas (byte 44)
 unfoldable pub parts : List ℕ → List (List ℕ)
 parts [] = []
-parts (b ∷ bs) = partsFrom [] (b ∷ bs)
+parts (b ∷ bs) = split 44 (b ∷ bs)
 
 unfoldable pub areNumbers : List (List ℕ) → Bool
 areNumbers ls = allOf (λ l. isNumber (numberOf l)) ls
@@ -69,13 +44,13 @@ wordOf w (l ∷ ls) = wordOf (cond (ltb (numberIn (numberOf l)) positions) (bitO
 -- whether a text starts with the three lines of a member
 unfoldable pub isMember : List ℕ → Bool
 isMember xs =
-    (isField feeKey xs && isFee (feeOf (valueOf feeKey xs)))
+    (isField feeKey xs && isSigned (signedOf (valueOf feeKey xs)))
     && ((isField sizeKey (behind 10 xs) && isNumber (numberOf (valueOf sizeKey (behind 10 xs))))
     && (isField parentsKey (behind 10 (behind 10 xs)) && areNumbers (parts (valueOf parentsKey (behind 10 (behind 10 xs))))))
 
 -- what the three lines say
 abbrev pub memberFee : List ℕ → ℤ
-memberFee xs = feeIn (feeOf (valueOf feeKey xs))
+memberFee xs = signedIn (signedOf (valueOf feeKey xs))
 
 abbrev pub memberSize : List ℕ → ℕ
 memberSize xs = numberIn (numberOf (valueOf sizeKey (behind 10 xs)))

@@ -5,6 +5,7 @@ use mathlib.Core.Bool.{Bool, cond, _||_}
 use mathlib.Core.List.{List}
 use lib.Dec.{ltb}
 use lib.ListN.{length, drop}
+use Rattle.texts.specs.Places.{before, placeOf}
 use Rattle.cluster_reader.specs.declared.lines.Line.{Line}
 use Rattle.cluster_reader.specs.declared.lines.Line.the-variants as line
 use Rattle.cluster_reader.specs.declared.lines.Value.{Value}
@@ -13,12 +14,8 @@ use Rattle.cluster_reader.specs.declared.Member.{Member}
 use Rattle.cluster_reader.specs.declared.Member.the-variants as member
 use Rattle.cluster_reader.specs.declared.Parents.{Parents}
 use Rattle.cluster_reader.specs.declared.Parents.the-variants as named
-use Rattle.cluster_reader.specs.Lines.{before, isLine, isField}
+use Rattle.cluster_reader.specs.Lines.{isLine, isField}
 use Rattle.cluster_reader.specs.Reading.{parts, areNumbers, wordOf, isMember, memberFee, memberSize, memberParents}
-
--- the place of the first byte b from there on, or the end
-abbrev pub placeOf : ℕ → List ℕ → ℕ → ℕ
-placeOf b text from = from + length (before b (drop from text))
 
 -- where the line that starts there ends, and where the one behind it starts
 unfoldable pub lineAt : List ℕ → ℕ → Line

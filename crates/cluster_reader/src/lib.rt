@@ -10,9 +10,13 @@ ghost use Rattle.cluster_reader.specs.Calls.{feesAfter, sizesAfter, pare
 ghost use Rattle.cluster_reader.specs.Steps.{memberAt, parentsIn};
 
 mod lines;
-mod numerals;
 
 use feefrac::FeeFrac;
+use texts::Number;
+use texts::Signed;
+use texts::place;
+use texts::read_number;
+use texts::read_signed;
 use txset::POSITIONS;
 use txset::SET_WORDS;
 use txset::TxSet;
@@ -59,7 +63,7 @@ pub fn read_cluster(
         Input::Malformed => Input::Malformed,
         Input::TooMany => Input::TooMany,
         Input::Members(n) => {
-            let next = lines::place(text, 0, b'\n') + 1;
+            let next = place(text, 0, b'\n') + 1;
             read_members(text, next, n, fees, sizes, parents)
         }
     }
@@ -74,7 +78,7 @@ fn first_line(text: &[u8]) -> Input
     };
     let start = part.start;
     let end = part.end;
-    let numerals::Number::Value(n) = numerals::read_number(&text[start..end]) else {
+    let Number::Value(n) = read_number(&text[start..end]) else {
         return Input::Malformed;
     };
     if (POSITIONS as u64) < n {
@@ -167,7 +171,7 @@ fn read_member(text: &[u8], from: usize) -> Member
     };
     let fee_start = fee_part.start;
     let fee_end = fee_part.end;
-    let numerals::Fee::Sats(fee) = numerals::read_fee(&text[fee_start..fee_end]) else {
+    let Signed::Value(fee) = read_signed(&text[fee_start..fee_end]) else {
         return Member::Malformed;
     };
     let lines::Value::Between(size_part) = lines::field(text, fee_end + 1, b"size=") else {
@@ -175,7 +179,7 @@ fn read_member(text: &[u8], from: usize) -> Member
     };
     let size_start = size_part.start;
     let size_end = size_part.end;
-    let numerals::Number::Value(size) = numerals::read_number(&text[size_start..size_end]) else {
+    let Number::Value(size) = read_number(&text[size_start..size_end]) else {
         return Member::Malformed;
     };
     let lines::Value::Between(parents_part) = lines::field(text, size_end + 1, b"parents=") else {
@@ -205,8 +209,8 @@ fn parents_of(text: &[u8]) -> Parents
     let mut from: usize = 0;
     // `set` has the positions that stand before `from`.
     loop {
-        let end = lines::place(text, from, b',');
-        let numerals::Number::Value(p) = numerals::read_number(&text[from..end]) else {
+        let end = place(text, from, b',');
+        let Number::Value(p) = read_number(&text[from..end]) else {
             return Parents::Malformed;
         };
         set = set.insert(p as usize);

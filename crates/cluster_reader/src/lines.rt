@@ -1,7 +1,8 @@
 // The lines of the input.
 ghost use mathlib.Core.Path.{_≡_};
 ghost use Rattle.cluster_reader.specs.Lines as spec;
-ghost use Rattle.cluster_reader.specs.Steps.{placeOf, lineAt, fieldAt, hasEnd};
+ghost use Rattle.cluster_reader.specs.Steps.{lineAt, fieldAt, hasEnd};
+use texts::place;
 
 // Where a line's newline stands, or that the line is not of its form.
 pub enum Line {
@@ -22,21 +23,6 @@ pub struct Span {
 
 // The most bytes before a newline.
 const LONGEST: usize = 1024;
-
-// The place of the next such byte, or the end; past the end, `from` itself.
-pub fn place(text: &[u8], from: usize, byte: u8) -> usize
-    ensures { λ r. ⌜ r ≡ placeOf byte (now (text .entry)) from ⌝ }
-{
-    let mut i = from;
-    // It is none of the bytes before i.
-    while i < text.len() {
-        if text[i] == byte {
-            return i;
-        }
-        i += 1;
-    }
-    i
-}
 
 // The end of the line that starts at `from`.
 fn line_end(text: &[u8], from: usize) -> Line

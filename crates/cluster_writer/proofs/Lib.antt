@@ -1,4 +1,2 @@
-pub mod Append
-pub mod Digits
 pub mod Rate
 pub mod Texts

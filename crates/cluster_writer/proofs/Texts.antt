@@ -1,88 +1,25 @@
--- The texts piece by piece, as the loops write them, and that all of them fit the room. Assumes nothing.
-use mathlib.Core.Path.{_≡_, refl, sym, ap, _∙_}
+-- The lines of the chunks one chunk at a time, as the loop writes them, and that all that is printed fits the room. Assumes nothing.
+use mathlib.Core.Path.{_≡_, sym, _∙_}
 use mathlib.Core.Bool.{true, false}
 use mathlib.Core.Logic.{_⊎_, inl, inr, ⊎-elim}
-use mathlib.Core.List.{List, [], _∷_, _++_, append-nil}
-use Prim.Native.Nat.{ℕ, suc, _+_, _-_, _*_, _≤_, _<_, min}
+use mathlib.Core.List.{List, [], _∷_, _++_}
+use Prim.Native.Nat.{ℕ, _+_, _-_, _*_, _≤_, _<_, min}
 use native.Mathlib.Numerals.{add-one}
 use native.Mathlib.Omega.{arith}
-use lib.IntN.{ℤ, pos, negsuc, natAbs}
+use lib.IntN.{ℤ}
 use lib.ListN.{length, take, drop, getD, length-append, length-drop, drop-of-length-le}
 use lib.Seq.{drop-cons, drop-drop, take-all, take-length, drop-length}
-use borrow.Author.Tests.{ne-eqb, le-leb, lt-leb}
+use borrow.Author.Tests.{le-leb, lt-leb}
 use Rattle.lists.proofs.Numbers.{lt-or-ge}
-use Rattle.feefrac.proofs.Signed.{Le, Lt}
 use Rattle.feefrac.specs.declared.FeeFrac.{FeeFrac}
 use Rattle.txset.specs.Sets.{positions}
 use Rattle.feeset.specs.Total.{total}
-use Rattle.cluster_writer.specs.Writing.{decimal, signed, commas, shownRate, chunkLines, allChunkLines, refusalText, successText}
+use Rattle.texts.specs.Rooms.{Room, Wrote, Writes}
+use Rattle.texts.proofs.Append.{Left, next, done, at-start}
+use Rattle.texts.proofs.Digits.{decimal-length}
+use Rattle.texts.proofs.Numbers.{signed-length, commas-length}
+use Rattle.cluster_writer.specs.Writing.{shownRate, chunkLines, allChunkLines, refusalText, successText}
 use Rattle.cluster_writer.specs.Calls.{few, successPrinted, successRoom}
-use Rattle.cluster_writer.specs.Steps.{Room, Wrote, item}
-use Rattle.cluster_writer.proofs.Append.{Left, start, piece-fits, next, done, at-start}
-use Rattle.cluster_writer.proofs.Digits.{decimal-length}
-
--- ---- numbers with commas between them
-
--- those from the k-th on
-unfoldable pub items : ℕ → List ℕ → List ℕ
-items k [] = []
-items k (x ∷ xs) = item k x ++ items (suc k) xs
-
--- all but the first have a comma in front
-pub later-item : (k n : ℕ) → (k ≡ 0 → ⊥) → item k n ≡ 44 ∷ decimal n
-unfolding item
-later-item k n h = rw (ne-eqb k 0 h)
-
-items-later : (k x : ℕ) (xs : List ℕ) → items (suc k) (x ∷ xs) ≡ 44 ∷ commas (x ∷ xs)
-unfolding items commas
-items-later k x [] = rw (later-item (suc k) x (omega arith)) (append-nil (44 ∷ decimal x))
-items-later k x (y ∷ ys) = rw (later-item (suc k) x (omega arith), items-later (suc k) y ys)
-
-commas-items : (xs : List ℕ) → commas xs ≡ items 0 xs
-unfolding commas items item
-commas-items [] = refl
-commas-items (x ∷ []) = sym (append-nil (decimal x))
-commas-items (x ∷ y ∷ ys) = ap (λ (l : List ℕ). decimal x ++ l) (sym (items-later 0 y ys))
-
-next-item : (k : ℕ) (xs : List ℕ) → k < length xs → items k (drop k xs) ≡ item k (getD xs k 0) ++ items (k + 1) (drop (k + 1) xs)
-unfolding items
-next-item k xs h = rw (drop-cons xs k 0 h, add-one)
-
--- of the numbers k are written
-pub record NumbersLeft (xs : List ℕ) (k at from : ℕ) (new old : List ℕ) : Type 0 where
-  pub passed : k ≤ length xs
-  pub left : Left (items k (drop k xs)) (commas xs) at from new old
-
--- before the first
-pub numbers-start : {xs : List ℕ} {k from : ℕ} {old : List ℕ} → k ≡ 0 → Room (commas xs) from old → NumbersLeft xs k from from old old
-numbers-start {xs} e r = rw e (record { passed = omega arith; left = rw (← commas-items xs) (start r) })
-
--- there is room for the next, it was written, and there is none left
-module _ {xs : List ℕ} {k at from : ℕ} {new old : List ℕ} (l : NumbersLeft xs k at from new old) where
-  next-number : k < length xs → Left (item k (getD xs k 0) ++ items (k + 1) (drop (k + 1) xs)) (commas xs) at from new old
-  next-number h = rw (next-item k xs h) at (l .left)
-
-  pub number-fits : k < length xs → Room (item k (getD xs k 0)) at new
-  number-fits h = piece-fits (item k (getD xs k 0)) _ (next-number h .room)
-
-  pub number-wrote : k < length xs → {end : ℕ} {newer : List ℕ} → Wrote (item k (getD xs k 0)) at new newer end → NumbersLeft xs (k + 1) end from newer old
-  number-wrote h w = record { passed = omega arith; left = next (item k (getD xs k 0)) _ (next-number h) w }
-
-  pub numbers-done : length xs ≤ k → Wrote (commas xs) from old new at
-  unfolding items
-  numbers-done h = done (rw (drop-of-length-le xs h) at (l .left))
-
--- ---- a number with its sign: from zero up, and below zero
-
-pub signed-up : (z : ℤ) → Le (pos 0) z → signed z ≡ decimal (natAbs z)
-unfolding signed
-signed-up (pos n) h = refl
-signed-up (negsuc n) h = absurd (omega arith)
-
-pub signed-down : (z : ℤ) → Lt z (pos 0) → signed z ≡ 45 ∷ decimal (natAbs z)
-unfolding signed
-signed-down (pos n) h = absurd (omega arith)
-signed-down (negsuc n) h = refl
 
 -- ---- the chunks
 
@@ -113,47 +50,31 @@ unfolding allChunkLines
 chunk-split fs ss k start end lens order h e =
     rw (drop-cons lens k 0 h, add-one, e, part-taken start (getD lens k 0) order, part-dropped start (getD lens k 0) order)
 
--- the lines of k chunks are written, with the first members of the order up to `start`
-pub record ChunksLeft (fs : List ℤ) (ss lens order : List ℕ) (k start at from : ℕ) (new old : List ℕ) : Type 0 where
+-- the lines of k chunks are written, with the first members of the order up to `begin`, if there is room for all
+pub record ChunksLeft (fs : List ℤ) (ss lens order : List ℕ) (k begin at from : ℕ) (new old : List ℕ) : Type 0 where
   pub passed : k ≤ length lens
-  pub within : start ≤ length order
-  pub left : Left (allChunkLines fs ss (drop k lens) (drop start order)) (allChunkLines fs ss lens order) at from new old
+  pub within : begin ≤ length order
+  pub long : length new ≡ length old
+  pub left : Room (allChunkLines fs ss lens order) from old
+      → Left (allChunkLines fs ss (drop k lens) (drop begin order)) (allChunkLines fs ss lens order) at from new old
 
--- there is room for the next chunk's lines, they were written, and there is none left
+-- the next chunk's lines were written, and there is none left
 module _ {fs : List ℤ} {ss lens order : List ℕ} {k begin at from : ℕ} {new old : List ℕ} (l : ChunksLeft fs ss lens order k begin at from new old) where
-  module _
-      {end : ℕ} {rate : FeeFrac}
-      (h : k < length lens)
-      (e : end ≡ min (begin + getD lens k 0) (length order))
-      (r : rate ≡ total fs ss (take (end - begin) (drop begin order)))
-    where
-      next-chunk : Left (chunkLines (getD lens k 0) rate ++ allChunkLines fs ss (drop (k + 1) lens) (drop end order))
-          (allChunkLines fs ss lens order) at from new old
-      next-chunk = rw r (rw (chunk-split fs ss k begin end lens order h e) at (l .left))
+  pub chunk-wrote : {end to : ℕ} {rate : FeeFrac} {newer : List ℕ} → k < length lens → end ≡ min (begin + getD lens k 0) (length order)
+      → rate ≡ total fs ss (take (end - begin) (drop begin order)) → length newer ≡ length new
+      → Writes (chunkLines (getD lens k 0) rate) at new newer to → ChunksLeft fs ss lens order (k + 1) end to from newer old
+  chunk-wrote {end} {rate = rate} h e r kept w = record {
+    passed = omega arith;
+    within = omega arith;
+    long = kept ∙ l .long;
+    left = λ room. next (chunkLines (getD lens k 0) rate) _ (rw r (rw (chunk-split fs ss k begin end lens order h e) at (l .left room))) w;
+  }
 
-      pub chunk-fits : Room (chunkLines (getD lens k 0) rate) at new
-      chunk-fits = piece-fits (chunkLines (getD lens k 0) rate) _ (next-chunk .room)
-
-      pub chunk-wrote : {to : ℕ} {newer : List ℕ}
-          → Wrote (chunkLines (getD lens k 0) rate) at new newer to → ChunksLeft fs ss lens order (k + 1) end to from newer old
-      chunk-wrote w = record { passed = omega arith; within = omega arith; left = next (chunkLines (getD lens k 0) rate) _ next-chunk w }
-
-  pub chunks-done : length lens ≤ k → Wrote (allChunkLines fs ss lens order) from old new at
+  pub chunks-done : length lens ≤ k → Writes (allChunkLines fs ss lens order) from old new at
   unfolding allChunkLines
-  chunks-done h = done (rw (drop-of-length-le lens h) at (l .left))
+  chunks-done h room = done (rw (drop-of-length-le lens h) at (l .left room))
 
 -- ---- lengths: one number a piece
-
-signed-length : (z : ℤ) → length (signed z) ≤ 21
-unfolding signed
-signed-length (pos n) = omega (arith, decimal-length n)
-signed-length (negsuc n) = omega (arith, decimal-length (suc n))
-
-commas-length : (xs : List ℕ) → length (commas xs) ≤ 21 * length xs
-unfolding commas
-commas-length [] = omega arith
-commas-length (x ∷ []) = omega (arith, decimal-length x)
-commas-length (x ∷ y ∷ xs) = omega (arith, length-append (decimal x) (44 ∷ commas (y ∷ xs)), decimal-length x, commas-length (y ∷ xs))
 
 chunk-length : (len : ℕ) (r : FeeFrac) → length (chunkLines len r) ≤ 54
 unfolding chunkLines

@@ -1,32 +1,16 @@
 -- Document 01, "The cluster program": what it prints. "It prints the answer, the order (bare `order=` for n 0), and per chunk its member
 -- count and its rate in sat per kvB". Assumes nothing.
-use Prim.Native.Nat.{ℕ, zero, suc, _+_, _/_, _%_}
+use Prim.Native.Nat.{ℕ}
+use mathlib.Core.Bool.{cond}
 use mathlib.Core.List.{List, [], _∷_, _++_}
 use lib.ListN.{take, drop}
-use lib.Dec.{eqb, ltb}
-use lib.IntN.{ℤ, pos, negsuc, _*ℤ_}
+use lib.Dec.{eqb}
+use lib.IntN.{ℤ, pos, _*ℤ_}
 use lib.Signed.{quotZ}
+use Rattle.texts.specs.Writing.{decimal, signed, commas, textLine}
 use Rattle.feefrac.specs.declared.FeeFrac.{FeeFrac}
 use Rattle.feefrac.specs.Rate.{heldFee}
-use mathlib.Core.Bool.{cond}
 use Rattle.feeset.specs.Total.{total}
-
--- a number in decimal: its last digit behind the digits of its tenth. (`fuel` is the most digits that there can be: 20 for a u64)
-unfoldable pub decimalFrom : ℕ → ℕ → List ℕ
-decimalFrom zero n = []
-decimalFrom (suc fuel) n = cond (ltb n 10) [] (decimalFrom fuel (n / 10)) ++ ((48 + n % 10) ∷ [])
-
-unfoldable pub decimal : ℕ → List ℕ
-decimal n = decimalFrom 20 n
-
--- a minus sign in front of a number below zero
-unfoldable pub signed : ℤ → List ℕ
-signed (pos n) = decimal n
-signed (negsuc n) = 45 ∷ decimal (suc n)
-
--- a line: its key, its value, a newline
-abbrev pub textLine : List ℕ → List ℕ → List ℕ
-textLine key value = key ++ (value ++ (10 ∷ []))
 
 -- "answer="
 abbrev pub answerKey : List ℕ
@@ -43,12 +27,6 @@ chunkKey = 99 ∷ 104 ∷ 117 ∷ 110 ∷ 107 ∷ 61 ∷ []
 -- "rate="
 abbrev pub rateKey : List ℕ
 rateKey = 114 ∷ 97 ∷ 116 ∷ 101 ∷ 61 ∷ []
-
--- numbers with commas between them
-unfoldable pub commas : List ℕ → List ℕ
-commas [] = []
-commas (x ∷ []) = decimal x
-commas (x ∷ y ∷ xs) = decimal x ++ (44 ∷ commas (y ∷ xs))
 
 -- "fee × 4,000 / size rounded towards zero, 0 for size 0, held to the i64 range"
 unfoldable pub shownRate : FeeFrac → ℤ

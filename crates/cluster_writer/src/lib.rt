@@ -3,13 +3,17 @@
 ghost use mathlib.Core.Path.{_≡_};
 ghost use Prim.Native.Nat.{_+_, _≤_, min};
 ghost use lib.ListN.{length};
-ghost use Rattle.cluster_writer.specs.Writing.{decimal as Text·decimal, signed as Text·signed, textLine, orderKey, rateKey, commas};
-ghost use Rattle.cluster_writer.specs.Writing.{chunkLines, allChunkLines, refusalText, shownRate};
-ghost use Rattle.cluster_writer.specs.Calls.{successPrinted, successRoom};
 ghost use Rattle.lists.specs.Lists.{overwrite};
-ghost use Rattle.cluster_writer.specs.Steps.{Room, Wrote, item};
+ghost use Rattle.texts.specs.Writing.{decimal, signed, commas, textLine};
+ghost use Rattle.texts.specs.Rooms.{Writes};
+ghost use Rattle.cluster_writer.specs.Writing.{orderKey, rateKey, chunkLines, allChunkLines, refusalText, shownRate};
+ghost use Rattle.cluster_writer.specs.Calls.{successPrinted, successRoom};
 use feefrac::FeeFrac;
 use feeset::list_feerate;
+use texts::write_bytes;
+use texts::write_decimal;
+use texts::write_numbers;
+use texts::write_signed;
 use txset::POSITIONS;
 use wide::scaled_over;
 
@@ -45,39 +49,11 @@ pub fn write_success(
 }
 
 fn order_line(order: &[usize], out: &mut [u8], from: usize) -> usize
-    requires { ⌜ Room (textLine orderKey (commas (now order))) from (now out) ⌝ }
-    ensures { λ r. ⌜ Wrote (textLine orderKey (commas (now (order .entry)))) from (now (out .entry)) (now (out .exit)) r ⌝ }
+    ensures { λ r. ⌜ Writes (textLine orderKey (commas (now (order .entry)))) from (now (out .entry)) (now (out .exit)) r ⌝ }
 {
-    let mut at = bytes(b"order=", out, from);
-    at = numbers(order, out, at);
-    bytes(b"\n", out, at)
-}
-
-// The numbers with commas between them.
-fn numbers(order: &[usize], out: &mut [u8], from: usize) -> usize
-    requires { ⌜ Room (commas (now order)) from (now out) ⌝ }
-    ensures { λ r. ⌜ Wrote (commas (now (order .entry))) from (now (out .entry)) (now (out .exit)) r ⌝ }
-{
-    let mut at = from;
-    let mut place: usize = 0;
-    // The first `place` positions are written, up to `at`.
-    while place < order.len() {
-        at = number_at(place, order[place] as u64, out, at);
-        place += 1;
-    }
-    at
-}
-
-// The k-th of some numbers, a comma in front of each but the first.
-fn number_at(k: usize, number: u64, out: &mut [u8], at: usize) -> usize
-    requires { ⌜ Room (item k number) at (now out) ⌝ }
-    ensures { λ r. ⌜ Wrote (item k number) at (now (out .entry)) (now (out .exit)) r ⌝ }
-{
-    if k == 0 {
-        return decimal(number, out, at);
-    }
-    let next = bytes(b",", out, at);
-    decimal(number, out, next)
+    let mut at = write_bytes(b"order=", out, from);
+    at = write_numbers(order, out, at);
+    write_bytes(b"\n", out, at)
 }
 
 fn chunk_lines(
@@ -88,8 +64,7 @@ fn chunk_lines(
     out: &mut [u8],
     from: usize,
 ) -> usize
-    requires { ⌜ Room (allChunkLines (now fees) (now sizes) (now lens) (now order)) from (now out) ⌝ }
-    ensures { λ r. ⌜ Wrote (allChunkLines (now (fees .entry)) (now (sizes .entry)) (now (lens .entry)) (now (order .entry))) from (now (out .entry)) (now (out .exit)) r ⌝ }
+    ensures { λ r. ⌜ Writes (allChunkLines (now (fees .entry)) (now (sizes .entry)) (now (lens .entry)) (now (order .entry))) from (now (out .entry)) (now (out .exit)) r ⌝ }
 {
     let mut at = from;
     let mut start: usize = 0;
@@ -119,8 +94,7 @@ fn chunk_end(start: usize, len: usize, count: usize) -> usize
 
 // A chunk's two lines.
 fn one_chunk(len: usize, rate: FeeFrac, out: &mut [u8], from: usize) -> usize
-    requires { ⌜ Room (chunkLines len rate) from (now out) ⌝ }
-    ensures { λ r. ⌜ Wrote (chunkLines len rate) from (now (out .entry)) (now (out .exit)) r ⌝ }
+    ensures { λ r. ⌜ Writes (chunkLines len rate) from (now (out .entry)) (now (out .exit)) r ⌝ }
 {
     let at = number_line(b"chunk=", len as u64, out, from);
     rate_line(shown_rate(rate), out, at)
@@ -151,54 +125,17 @@ pub fn shown_rate(rate: FeeFrac) -> i64
 }
 
 fn number_line(key: &[u8], number: u64, out: &mut [u8], from: usize) -> usize
-    requires { ⌜ Room (textLine (now key) (Text·decimal number)) from (now out) ⌝ }
-    ensures { λ r. ⌜ Wrote (textLine (now (key .entry)) (Text·decimal number)) from (now (out .entry)) (now (out .exit)) r ⌝ }
+    ensures { λ r. ⌜ Writes (textLine (now (key .entry)) (decimal number)) from (now (out .entry)) (now (out .exit)) r ⌝ }
 {
-    let mut at = bytes(key, out, from);
-    at = decimal(number, out, at);
-    bytes(b"\n", out, at)
+    let mut at = write_bytes(key, out, from);
+    at = write_decimal(number, out, at);
+    write_bytes(b"\n", out, at)
 }
 
 fn rate_line(rate: i64, out: &mut [u8], from: usize) -> usize
-    requires { ⌜ Room (textLine rateKey (Text·signed rate)) from (now out) ⌝ }
-    ensures { λ r. ⌜ Wrote (textLine rateKey (Text·signed rate)) from (now (out .entry)) (now (out .exit)) r ⌝ }
+    ensures { λ r. ⌜ Writes (textLine rateKey (signed rate)) from (now (out .entry)) (now (out .exit)) r ⌝ }
 {
-    let mut at = bytes(b"rate=", out, from);
-    at = signed(rate, out, at);
-    bytes(b"\n", out, at)
-}
-
-fn signed(number: i64, out: &mut [u8], at: usize) -> usize
-    requires { ⌜ Room (Text·signed number) at (now out) ⌝ }
-    ensures { λ r. ⌜ Wrote (Text·signed number) at (now (out .entry)) (now (out .exit)) r ⌝ }
-{
-    if number < 0 {
-        let next = bytes(b"-", out, at);
-        let less = 0 - (number + 1);
-        return decimal(less as u64 + 1, out, next);
-    }
-    decimal(number as u64, out, at)
-}
-
-// Appends bytes.
-fn bytes(from: &[u8], out: &mut [u8], at: usize) -> usize
-    requires { ⌜ Room (now from) at (now out) ⌝ }
-    ensures { λ r. ⌜ Wrote (now (from .entry)) at (now (out .entry)) (now (out .exit)) r ⌝ }
-{
-    let mut i: usize = 0;
-    // The first i bytes are written.
-    while i < from.len() {
-        out[at + i] = from[i];
-        i += 1;
-    }
-    at + i
-}
-
-fn decimal(number: u64, out: &mut [u8], at: usize) -> usize
-    requires { ⌜ Room (Text·decimal number) at (now out) ⌝ }
-    ensures { λ r. ⌜ Wrote (Text·decimal number) at (now (out .entry)) (now (out .exit)) r ⌝ }
-{
-    let mut digits = [0u8; 20];
-    let k = io::decimal(number, &mut digits);
-    bytes(&digits[..k], out, at)
+    let mut at = write_bytes(b"rate=", out, from);
+    at = write_signed(rate, out, at);
+    write_bytes(b"\n", out, at)
 }

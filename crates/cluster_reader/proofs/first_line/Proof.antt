@@ -3,8 +3,8 @@ use mathlib.Core.List.{List}
 use Prim.Native.Nat.{ℕ}
 use native.Mathlib.Omega.{arith}
 use borrow.Author.Needs.{needs}
+use Rattle.texts.specs.Numerals.{numberOf}
 use Rattle.cluster_reader.specs.Reading.{nKey}
-use Rattle.cluster_reader.specs.Numerals.{numberOf}
 use Rattle.cluster_reader.specs.Lines.{valueOf}
 use Rattle.cluster_reader.proofs.Places.{Field, field-between, field-malformed}
 use Rattle.cluster_reader.proofs.Reading.{first-no-field, first-no-number, first-many, first-count}

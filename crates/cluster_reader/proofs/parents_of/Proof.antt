@@ -4,9 +4,9 @@ use Prim.Native.Nat.{ℕ, _+_, _-_, _≤_, _<_, _^_}
 use native.Mathlib.Omega.{arith}
 use lib.ListN.{length, take, drop}
 use borrow.Author.Needs.{needs}
-use Rattle.cluster_reader.specs.Numerals.{numberOf}
-use Rattle.cluster_reader.specs.Lines.{before}
-use Rattle.cluster_reader.proofs.Places.{place-before, place-le}
+use Rattle.texts.specs.Numerals.{numberOf}
+use Rattle.texts.specs.Places.{before}
+use Rattle.texts.proofs.Places.{place-before, place-le}
 use Rattle.cluster_reader.proofs.Named.{word-empty, wordWith, word-insert, Named, nothing, start, bad-part, last, turn}
 use Rattle.cluster_reader.proofs.parents_of.Statement.{statement}
 use Rattle.cluster_reader.proofs.parents_of.Tie as tie

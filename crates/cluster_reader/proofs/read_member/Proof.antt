@@ -7,9 +7,10 @@ use mir.Syntax.{w64}
 use mir.Val.{SFits}
 use mir.Facts.{toZ-ofZ}
 use borrow.Author.Needs.{needs, sfits-of}
+use Rattle.texts.specs.Numerals.{numberOf, signedOf}
+use Rattle.texts.specs.Places.{behind}
 use Rattle.cluster_reader.specs.declared.lines.Span.{Span}
-use Rattle.cluster_reader.specs.Numerals.{numberOf, feeOf}
-use Rattle.cluster_reader.specs.Lines.{behind, valueOf}
+use Rattle.cluster_reader.specs.Lines.{valueOf}
 use Rattle.cluster_reader.specs.Reading.{feeKey, sizeKey, parentsKey}
 use Rattle.cluster_reader.specs.Steps.{parentsIn}
 use Rattle.cluster_reader.proofs.Places.{Field, field-between, field-malformed}
@@ -47,16 +48,16 @@ module _ (c : tie.After-fee-part) where
   fee-field : Field feeKey (fee-line at-fee) (text at-fee) (from at-fee) (fee-span .start) (fee-span .end)
   fee-field = field-between feeKey (text at-fee) (from at-fee) refl fee-span (sym (at-fee .field .ensures) ∙ c .fee-part .given .1)
 
-module _ (c : tie.After-read-fee) where
+module _ (c : tie.After-read-signed) where
   abbrev fee-part : tie.After-fee-part
   fee-part = c .before .before .before
 
-  fee-value : feeOf (valueOf feeKey (fee-line (at-fee fee-part))) ≡ c .read-fee .result
-  fee-value = sym (c .read-fee .ensures ∙ ap feeOf (fee-field fee-part .value))
+  fee-value : signedOf (valueOf feeKey (fee-line (at-fee fee-part))) ≡ c .read-signed .result
+  fee-value = sym (c .read-signed .ensures ∙ ap signedOf (fee-field fee-part .value))
 
 -- the size's line
 module _ (c : tie.After-field2) where
-  abbrev fee-read : tie.After-read-fee
+  abbrev fee-read : tie.After-read-signed
   fee-read = c .before .before .before .before .before
 
   abbrev first : tie.After-field

@@ -6,7 +6,7 @@ use mathlib.Core.Bool.{false}
 use lib.ListN.{length, take}
 use lib.Seq.{length-take-le}
 use borrow.Author.Needs.{needs}
-use Rattle.cluster_reader.specs.Lines.{before}
+use Rattle.texts.specs.Places.{before}
 use Rattle.cluster_reader.specs.Calls.{isDecided}
 use Rattle.cluster_run.proofs.Stops.{gave-bytes, gave-end, gave-failure}
 use Rattle.cluster_run.proofs.read_input.Statement.{statement}

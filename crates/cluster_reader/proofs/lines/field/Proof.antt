@@ -5,8 +5,10 @@ use native.Mathlib.Omega.{arith}
 use lib.ListN.{take, drop}
 use borrow.Author.Needs.{needs}
 use borrow.Author.Tests.{not-true, not-false}
+use Rattle.texts.specs.Places.{before}
+use Rattle.texts.proofs.Places.{place-before}
 use Rattle.cluster_reader.specs.Lines as spec
-use Rattle.cluster_reader.proofs.Places.{Whole, line-ends, line-malformed, place-before, field-no-line, field-no-key, field-found}
+use Rattle.cluster_reader.proofs.Places.{Whole, line-ends, line-malformed, field-no-line, field-no-key, field-found}
 use Rattle.cluster_reader.proofs.lines.field.Statement.{statement}
 use Rattle.cluster_reader.proofs.lines.field.Tie as tie
 
@@ -38,7 +40,7 @@ module _ (c : tie.After-starts) where
   abbrev from : ℕ
   from = start .args .from
 
-  is-key : c .starts .result ≡ spec.starts key (spec.before 10 (drop from text))
+  is-key : c .starts .result ≡ spec.starts key (before 10 (drop from text))
   is-key =
       c .starts .ensures
       ∙ ap (spec.starts key) (ap (λ (e : ℕ). take (e - from) (drop from text)) (whole (c .before .before .before) .at) ∙ place-before 10 text from)

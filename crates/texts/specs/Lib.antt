@@ -1,0 +1,6 @@
+pub mod Numerals
+pub mod Writing
+pub mod Places
+pub mod Rooms
+pub mod Hex
+pub mod Steps
