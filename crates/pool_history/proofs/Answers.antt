@@ -2,10 +2,10 @@
 use mathlib.Core.Path.{_≡_, refl, sym, ap, _∙_}
 use mathlib.Core.Bool.{true, false, _&&_}
 use mathlib.Core.List.{List}
-use Prim.Native.Nat.{ℕ, zero, suc}
+use Prim.Native.Nat.{ℕ, zero, suc, _≤_}
 use lib.Dec.{eqb}
 use lib.ListN.{length}
-use borrow.Author.Tests.{eqb-true, not-false}
+use borrow.Author.Tests.{eqb-true, ltb-false, not-false}
 use Rattle.lists.proofs.Below.{first-has}
 use Rattle.lists.proofs.Bools.{clash, cases, and-both, and-left, cond-where, is-false}
 use Rattle.refusals.specs.Refusals.{Line, answerOf, keptUnless}
@@ -13,11 +13,13 @@ use Rattle.refusals.proofs.Lines.{lineAt, numbered, Past, none-past, past, stop
 use Rattle.txids.specs.declared.Txid.{Txid}
 use Rattle.pool_table.specs.declared.Entry.{Entry}
 use Rattle.pool_table.specs.declared.Limits.{Limits}
-use Rattle.pool_table.specs.Pool.{Pool, slotCount, occupied}
+use Rattle.pool_table.specs.Pool.{Pool, slotCount, occupied, entries}
 use Rattle.pool_table.specs.Words.{isLegal, poolOf}
 use Rattle.pool_table.specs.Ranges.{limitsInRange, entryInRange}
 use Rattle.pool_rules.specs.Module8.{holds, isIn, slotOf}
 use Rattle.pool_rules.specs.Calls.{makeRefusals, addRefusals, namedRefusals}
+use Rattle.template_rules.specs.Filling.{Settings}
+use Rattle.template_rules.specs.Calls.{templateRefusals}
 use Rattle.pool_history.proofs.Added.{Addable}
 
 -- ---- any refusals
@@ -64,6 +66,11 @@ module _ (t : List ℕ) where
   pub can-name : (x : Txid) → answerOf (namedRefusals t x) ≡ 0 → isIn (poolOf t) x ≡ true
   unfolding namedRefusals
   can-name x z = not-false (isIn (poolOf t) x) (no-line (namedRefusals t x) refl z 1)
+
+  -- the room has a place for each entry
+  pub can-template : (w : Settings) (room : List ℕ) → answerOf (templateRefusals t w room) ≡ 0 → entries (poolOf t) ≤ length room
+  unfolding templateRefusals
+  can-template w room z = ltb-false (length room) (entries (poolOf t)) (no-line (templateRefusals t w room) refl z 2)
 
 -- a txid's slot is occupied
 pub found-occupied : (p : Pool) (x : Txid) → isIn p x ≡ true → occupied p (slotOf p x) ≡ true

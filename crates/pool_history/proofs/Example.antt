@@ -1,5 +1,5 @@
--- A history of three calls on a table of two slots, computed by the definitions: there are histories, and wrong programs contradict this
--- one. Assumes nothing.
+-- A history of three calls on a table of two slots, and of five more, computed by the definitions: there are histories, and wrong programs
+-- contradict this one. Assumes nothing.
 use mathlib.Core.Path.{_≡_, refl, sym, ap, _∙_}
 use mathlib.Core.Bool.{true, false, or-false}
 use mathlib.Core.List.{List, [], _∷_, _++_}
@@ -23,7 +23,7 @@ use Rattle.pool_table.specs.Ranges.{limitsInRange, entryInRange}
 use Rattle.ways.specs.Ways.{reach}
 use Rattle.txset.specs.Sets.{has, hasIn}
 use Rattle.slotsets.specs.SlotSets.{wordOf, wordsOf, setOf}
-use Rattle.pool_table.specs.Changes.{freeSlots, made}
+use Rattle.pool_table.specs.Changes.{withCost, freeSlots, made}
 use Rattle.pool_table.specs.Links.{isParent, isChild, isLinked, inCluster, inClusters, countOf, sumFrom, weightOf}
 use Rattle.pool_rules.specs.Module8.{holds, isIn, slotOf, isPlaceOf, isListed, countWith, sizeWith, eachFrom, withSlots}
 use Rattle.chunk_tests.specs.Tests.{isNegative, isBelow}
@@ -31,12 +31,12 @@ use Rattle.pool_chunks.specs.Chunks.{feeOf, sizeOf}
 use Rattle.pool_chunks.specs.Sorted.{deltaInRange, badDelta}
 use Rattle.template_rules.specs.Filling as filling
 use Rattle.template_rules.proofs.One.{Fits}
-use Rattle.pool_history.specs.History.{make, add, clear, template, answerTo, tableAfter, slotsOn, Event, History, begun}
+use Rattle.pool_history.specs.History.{make, add, remove, setCost, clear, template, answerTo, tableAfter, slotsOn, Event, History, begun, next}
 use Rattle.pool_history.specs.Standing.{stands, held, linked, lists, allAdded, allRemoved, totalWeight, howMany, board, lowestUnused}
 use Rattle.pool_history.specs.Standing.{standingAt, limitsNow, standing}
-use Rattle.pool_history.specs.Replies.{addRefusalsBy, templateRefusalsBy, refusalsBy}
-use Rattle.pool_history.proofs.Theorems.{went, link-stands, count-stands, answer-stands, totals-answers, template-answers, pool-stands}
-use Rattle.pool_history.proofs.Theorems.{entry-place}
+use Rattle.pool_history.specs.Replies.{addRefusalsBy, namedRefusalsBy, templateRefusalsBy, refusalsBy}
+use Rattle.pool_history.proofs.Theorems.{goes-on, link-stands, count-stands, answer-stands, totals-answers, template-answers, pool-stands}
+use Rattle.pool_history.proofs.Theorems.{entry-holds, entry-place, limits-stand, refused-leaves}
 use Rattle.pool_rules.specs.Calls.{makeRefusals, makeAnswer, afterMake, totalsReply}
 use Rattle.pool_table.specs.Words.{isLegal, slotsIn}
 use Rattle.template_rules.specs.Calls.{templateReply}
@@ -65,7 +65,26 @@ second = record { call = add parent []; done = true } ∷ first
 abbrev pub third : List Event
 third = record { call = add child parentBytes; done = true } ∷ second
 
--- the child's add has no refusal
+-- then the parent is removed and added again, the child's cost is set, its second add is refused, and the pool is made anew
+abbrev pub fourth : List Event
+fourth = record { call = remove (parent .txid); done = true } ∷ third
+
+abbrev pub fifth : List Event
+fifth = record { call = add parent []; done = true } ∷ fourth
+
+abbrev pub sixth : List Event
+sixth = record { call = setCost (child .txid) 8; done = true } ∷ fifth
+
+abbrev pub seventh : List Event
+seventh = record { call = add child parentBytes; done = false } ∷ sixth
+
+abbrev pub fewer : Limits
+fewer = record { count = 1; size = 1000; «bytes_per_sigop» = 0 }
+
+abbrev pub eighth : List Event
+eighth = record { call = make fewer; done = true } ∷ seventh
+
+-- the child's first add has no refusal
 no-refusal : answerOf (refusalsBy 2 second (add child parentBytes)) ≡ 0
 unfolding refusalsBy addRefusalsBy answerOf entryInRange stands sameTxid same howMany allAdded allRemoved limitsNow countWith sizeWith countOf weightOf sumFrom countFrom inClusters anyFrom firstFrom isListed isPlaceOf isIn slotOf holds txidAt wordAt numberOf inCluster reach isLinked isParent isChild hasIn has slotAt isOccupied virtualSize standing standingAt withSlots eachFrom made freeSlots totalWeight board lowestUnused held linked lists setOf wordsOf wordOf
 no-refusal = refl
@@ -112,10 +131,10 @@ module _ (lent : List ℕ) (long : length lent ≡ 82) where
   parent-taken = lone-taken after-first parent refl refl (omega (arith, two)) (omega arith)
 
   pub after-second : History lent second t2
-  after-second = went after-first (add parent []) parent-taken
+  after-second = goes-on after-first (add parent []) parent-taken
 
   pub after-third : History lent third t3
-  after-third = went after-second (add child parentBytes) (answer-stands after-second (add child parentBytes) ∙ rw two no-refusal)
+  after-third = goes-on after-second (add child parentBytes) (answer-stands after-second (add child parentBytes) ∙ rw two no-refusal)
 
   -- ---- what it leaves
 
@@ -127,12 +146,12 @@ module _ (lent : List ℕ) (long : length lent ≡ 82) where
   -- no "links .. lost": the child names its parent
   pub child-linked : isParent (poolOf t3) (slotOf (poolOf t3) (child .txid)) (slotOf (poolOf t3) (parent .txid)) ≡ true
   unfolding stands linked lists anyFrom sameTxid same txidAt wordAt numberOf
-  child-linked = link-stands after-third (child .txid) (parent .txid) refl refl
+  child-linked = link-stands after-third (child .txid) (parent .txid)
 
   -- "or invented": and not the other way
   pub parent-not : isParent (poolOf t3) (slotOf (poolOf t3) (parent .txid)) (slotOf (poolOf t3) (child .txid)) ≡ false
   unfolding stands linked lists anyFrom sameTxid same txidAt wordAt numberOf
-  parent-not = link-stands after-third (parent .txid) (child .txid) refl refl
+  parent-not = link-stands after-third (parent .txid) (child .txid)
 
   -- a clear that forgets nothing is another
   pub clear-forgets : tableAfter t3 clear ≡ t3 → ⊥
@@ -166,3 +185,69 @@ module _ (lent : List ℕ) (long : length lent ≡ 82) where
       let same-one : filling.template (standing 2 second) asked ≡ 0 ∷ [] =
       ap (λ (p : Pool). filling.template p asked) (sym pool-is) ∙ template-parent in
       template-answers after-second asked room ∙ rw (two, good-deltas, le-ltb (length room) 1 one, same-one)
+
+  -- ---- the history goes on
+
+  abbrev t4 : List ℕ
+  t4 = tableAfter t3 (remove (parent .txid))
+
+  abbrev t5 : List ℕ
+  t5 = tableAfter t4 (add parent [])
+
+  abbrev t6 : List ℕ
+  t6 = tableAfter t5 (setCost (child .txid) 8)
+
+  abbrev t7 : List ℕ
+  t7 = tableAfter t6 (add child parentBytes)
+
+  abbrev t8 : List ℕ
+  t8 = tableAfter t7 (make fewer)
+
+  pub after-fourth : History lent fourth t4
+  unfolding refusalsBy namedRefusalsBy answerOf stands sameTxid same
+  after-fourth = goes-on after-third (remove (parent .txid)) (answer-stands after-third (remove (parent .txid)))
+
+  pub after-fifth : History lent fifth t5
+  unfolding entryInRange stands sameTxid same howMany allAdded allRemoved limitsNow virtualSize
+  after-fifth = goes-on after-fourth (add parent []) (lone-taken after-fourth parent refl refl (omega (arith, two)) (omega arith))
+
+  -- "a freed slot is free", and "adding takes the lowest free slot": 0 again
+  pub again-lowest : slotOf (poolOf t5) (parent .txid) ≡ 0
+  unfolding stands sameTxid same board lowestUnused firstFrom
+  again-lowest = entry-place after-fifth (parent .txid) refl ∙ rw two
+
+  -- "a link stands until one of its ends is removed": the child's add listed the parent, and yet they are not linked
+  pub again-apart : (isParent (poolOf t5) (slotOf (poolOf t5) (child .txid)) (slotOf (poolOf t5) (parent .txid)) ≡ false)
+      × (isParent (poolOf t5) (slotOf (poolOf t5) (parent .txid)) (slotOf (poolOf t5) (child .txid)) ≡ false)
+  unfolding linked lists anyFrom sameTxid same
+  again-apart = (link-stands after-fifth (child .txid) (parent .txid), link-stands after-fifth (parent .txid) (child .txid))
+
+  pub after-sixth : History lent sixth t6
+  unfolding refusalsBy namedRefusalsBy answerOf stands sameTxid same
+  after-sixth = goes-on after-fifth (setCost (child .txid) 8) (answer-stands after-fifth (setCost (child .txid) 8))
+
+  -- "save a cost set later"
+  pub cost-set : slotAt (poolOf t6) (slotOf (poolOf t6) (child .txid)) .entry ≡ withCost 8 child
+  unfolding stands held sameTxid same
+  cost-set = entry-holds after-sixth (child .txid) refl
+
+  -- 6: "txid already in the pool"
+  pub twice-refused : answerTo t6 (add child parentBytes) ≡ 6
+  unfolding refusalsBy addRefusalsBy answerOf entryInRange stands sameTxid same
+  twice-refused = answer-stands after-sixth (add child parentBytes)
+
+  pub after-seventh : History lent seventh t7
+  after-seventh = rw twice-refused at (next (add child parentBytes) after-sixth)
+
+  -- "all lent memory stays"
+  pub twice-stays : t7 ≡ t6
+  twice-stays = refused-leaves after-sixth (add child parentBytes) (λ z. omega (arith, twice-refused, z))
+
+  pub after-eighth : History lent eighth t8
+  unfolding refusalsBy answerOf limitsInRange
+  after-eighth = goes-on after-seventh (make fewer) (answer-stands after-seventh (make fewer))
+
+  -- "Making a pool empties a lent table", and its limits are the new ones
+  pub made-anew : (totalsReply t8 ≡ record { answer = 0; entries = 0; weight = 0 }) × (poolOf t8 .limits ≡ fewer)
+  unfolding howMany totalWeight allAdded allRemoved limitsNow
+  made-anew = (totals-answers after-eighth, limits-stand after-eighth)

@@ -7,25 +7,26 @@ use Prim.Native.Nat.{ℕ}
 use native.Mathlib.Omega.{arith}
 use Rattle.lists.specs.Below.{firstFrom}
 use Rattle.lists.proofs.Below.{any-at, first-has}
-use Rattle.lists.proofs.Bools.{and-both, or-either}
+use Rattle.lists.proofs.Bools.{and-both, or-either, true-together}
 use Rattle.txids.specs.declared.Txid.{Txid}
 use Rattle.ways.specs.Ways.{Way, step, further}
 use Rattle.pool_table.specs.declared.Side.the-variants.{Parents}
-use Rattle.pool_table.specs.Pool.{Pool, slotAt, slotCount}
+use Rattle.pool_table.specs.Pool.{Pool, slotAt, slotCount, occupied}
 use Rattle.pool_table.specs.Words.{poolOf}
 use Rattle.pool_table.specs.Links.{isParent, isChild, isLinked, Together, inCluster, inClusters}
 use Rattle.pool_table.specs.Links as pool
 use Rattle.pool_links.proofs.Mutual.{occupied-in}
-use Rattle.pool_clusters.proofs.Theorems.{cluster-together, together-cluster}
+use Rattle.pool_clusters.proofs.Theorems.{cluster-together, together-cluster, cluster-occupied}
 use Rattle.pool_rules.specs.Module8.{slotOf, isListed}
 use Rattle.pool_rules.proofs.Listed.{listed-held}
+use Rattle.pool_rules.proofs.Sound.{sound-parts}
 use Rattle.pool_history.specs.History.{Event}
 use Rattle.pool_history.specs.Standing.{stands, linked}
 use Rattle.pool_history.specs.Kin.{Kin, itself, link, Joining}
 use Rattle.pool_history.proofs.Plain.{names, namer, parent-names, child-names, parent-is}
 use Rattle.pool_history.proofs.Kept.{well-kept}
 use Rattle.pool_history.proofs.Steps.{name-each-other}
-use Rattle.pool_history.proofs.Places.{At, at-slot, listed-at, listed-other}
+use Rattle.pool_history.proofs.Places.{At, in-at, slot-in, at-slot, listed-at, listed-other}
 use Rattle.pool_history.proofs.Follows.{Follows, follows-plain}
 use Rattle.pool_history.proofs.Replies.{follows-at}
 
@@ -72,6 +73,19 @@ module _ {lent : List ℕ} {es : List Event} {t : List ℕ} (h : Follows lent es
       let b = slotOf p y in
       parent-is (follows-plain h) a b ∙ h .right .links x y a b (follows-at h x (u .0)) (follows-at h y (u .1)) ∙ e
 
+  slots-linked : (x y : Txid) → isParent p (slotOf p x) (slotOf p y) ≡ true → linked es x y ≡ true
+  slots-linked x y e =
+      let a = slotOf p x in
+      let b = slotOf p y in
+      let k = parent-names p a b e in
+      let i = in-at p x (slot-in p x (namer (follows-plain h) Parents a b k)) in
+      let j = in-at p y (slot-in p y (follows-plain h .named Parents a b k)) in
+      sym (h .right .links x y a b i j) ∙ k
+
+  -- where either does not stand, both are false
+  pub follows-link : (x y : Txid) → isParent p (slotOf p x) (slotOf p y) ≡ linked es x y
+  follows-link x y = true-together (isParent p (slotOf p x) (slotOf p y)) (linked es x y) (slots-linked x y) (linked-slots x y)
+
   kin-link : (x y : Txid) → (linked es x y || linked es y x) ≡ true → isLinked p (slotOf p x) (slotOf p y) ≡ true
   unfolding isLinked
   kin-link x y e =
@@ -102,24 +116,42 @@ module _ {lent : List ℕ} {es : List Event} {t : List ℕ} (h : Follows lent es
   pub kin-follows : (x y : Txid) → Kin es x y → inCluster p (slotOf p x) (slotOf p y) ≡ true
   kin-follows x y k = together-cluster p (kin-together k)
 
-  -- those of listed parents
+  -- no free slot is in one
+  pub follows-held : (s b : ℕ) → occupied p s ≡ true → inCluster p s b ≡ true → occupied p b ≡ true
+  follows-held =
+      let k = well-kept t (h .well) in
+      cluster-occupied p (k .few) (sound-parts p (k .good) .links)
+
+  -- those of listed parents: of one of them
+  joined-by : (own : Txid) (listed : List ℕ) (b : ℕ) → inClusters p (isListed p own listed) b ≡ true
+      → (a : ℕ) × (isListed p own listed a ≡ true) × (inCluster p a b ≡ true)
+  unfolding inClusters
+  joined-by own listed b e =
+      let f : ℕ → Bool = λ a. isListed p own listed a && inCluster p a b in
+      let a = firstFrom f (slotCount p) 0 in
+      let u = and-both (isListed p own listed a) (inCluster p a b) (first-has f (slotCount p) 0 e) in
+      (a, u .0, u .1)
+
+  pub joined-held : (own : Txid) (listed : List ℕ) (b : ℕ) → inClusters p (isListed p own listed) b ≡ true → occupied p b ≡ true
+  joined-held own listed b e =
+      let u = joined-by own listed b e in
+      follows-held (u .0) b (listed-held p own listed (u .0) (u .1) .1) (u .2)
+
   module _ (own : Txid) (listed : List ℕ) (y : Txid) where
     pub follows-joining : stands es y ≡ true → inClusters p (isListed p own listed) (slotOf p y) ≡ true → Joining es own listed y
-    unfolding inClusters
     follows-joining v e =
-        let f : ℕ → Bool = λ a. isListed p own listed a && inCluster p a (slotOf p y) in
-        let a = firstFrom f (slotCount p) 0 in
-        let u = and-both (isListed p own listed a) (inCluster p a (slotOf p y)) (first-has f (slotCount p) 0 e) in
-        let i : At p (id a) a = record { there = listed-held p own listed a (u .0) .1; named = refl } in
-        let other = listed-other p own listed (id a) a i (u .0) in
+        let u = joined-by own listed (slotOf p y) e in
+        let a = u .0 in
+        let i : At p (id a) a = record { there = listed-held p own listed a (u .1) .1; named = refl } in
+        let other = listed-other p own listed (id a) a i (u .1) in
         let z : slotOf p (id a) ≡ a = at-slot (follows-plain h) i in
         let stood = h .right .told (id a) a i .stands in
         record {
           parent = id a;
-          named = sym (listed-at (follows-plain h) own listed (id a) a i other) ∙ u .0;
+          named = sym (listed-at (follows-plain h) own listed (id a) a i other) ∙ u .1;
           stood = stood;
           other = other;
-          kin = follows-kin (id a) y stood v (ap (λ (s : ℕ). inCluster p s (slotOf p y)) z ∙ u .1);
+          kin = follows-kin (id a) y stood v (ap (λ (s : ℕ). inCluster p s (slotOf p y)) z ∙ u .2);
         }
 
     pub joining-follows : Joining es own listed y → inClusters p (isListed p own listed) (slotOf p y) ≡ true

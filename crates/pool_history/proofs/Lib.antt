@@ -22,6 +22,7 @@ pub mod Replies
 pub mod Others
 pub mod Since
 pub mod Kin
+pub mod Who
 pub mod Theorems
 pub mod Refuted
 pub mod Example

@@ -1,6 +1,6 @@
 -- What a call is not about stands after it as before, by the events alone. Assumes nothing.
 use mathlib.Core.Path.{_≡_, refl}
-use mathlib.Core.Bool.{Bool, true, false, or-true}
+use mathlib.Core.Bool.{Bool, true, false}
 use mathlib.Core.List.{List, _∷_}
 use Prim.Native.Nat.{ℕ}
 use Rattle.lists.proofs.Bools.{clash, or-left, or-right}
@@ -41,17 +41,3 @@ module _ (n : ℕ) (es : List Event) where
   link-same clear true x y e = clash refl e
   link-same totals true x y e = refl
   link-same (template w room) true x y e = refl
-
-  -- both ends of such a link still stand
-  pub ends-stay : (c : Call) (b : Bool) (x y : Txid) → isAboutLink c x y ≡ false → stands es x ≡ true → stands es y ≡ true
-      → (told n c b es .stands x ≡ true) × (told n c b es .stands y ≡ true)
-  unfolding stands
-  ends-stay c false x y e u v = (u, v)
-  ends-stay (make l) true x y e u v = clash refl e
-  ends-stay (add i listed) true x y e u v = (rw (u, or-true (sameTxid (i .txid) x)), rw (v, or-true (sameTxid (i .txid) y)))
-  ends-stay (remove z) true x y e u v =
-      (rw (or-left (sameTxid z x) (sameTxid z y) e) u, rw (or-right (sameTxid z x) (sameTxid z y) e) v)
-  ends-stay (setCost z c) true x y e u v = (u, v)
-  ends-stay clear true x y e u v = clash refl e
-  ends-stay totals true x y e u v = (u, v)
-  ends-stay (template w room) true x y e u v = (u, v)

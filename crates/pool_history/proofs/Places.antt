@@ -2,12 +2,12 @@
 use mathlib.Core.Path.{_≡_, sym, ap, ap₂, _∙_}
 use mathlib.Core.Bool.{Bool, true, false, not, _&&_}
 use mathlib.Core.List.{List}
-use Prim.Native.Nat.{ℕ, _*_}
+use Prim.Native.Nat.{ℕ, _+_, _*_}
 use native.Mathlib.Omega.{arith}
 use lib.Dec.{eqb}
-use borrow.Author.Tests.{eq-eqb, eqb-true, not-true}
+use borrow.Author.Tests.{lt-ltb, eq-eqb, eqb-true, not-true}
 use Rattle.lists.specs.Below.{firstFrom}
-use Rattle.lists.proofs.Below.{any-at, any-ext, first-has}
+use Rattle.lists.proofs.Below.{any-at, any-ext, any-first, first-has}
 use Rattle.lists.proofs.Bools.{and-both, is-false, true-together}
 use Rattle.txids.specs.declared.Txid.{Txid}
 use Rattle.txids.specs.Txids.{sameTxid, txidAt, listedCount}
@@ -46,6 +46,12 @@ module _ (p : Pool) (x : Txid) where
   at-in s h =
       let l = occupied-in p s (h .there) in
       any-at (holds p x) (slotCount p) 0 s (omega arith) (omega arith) (ap₂ _&&_ (h .there) (equal-same (slotAt p s .entry .txid) x (h .named)))
+
+  -- a look-up that ends at an entry has found it
+  pub slot-in : occupied p (slotOf p x) ≡ true → isIn p x ≡ true
+  unfolding isIn slotOf
+  slot-in o =
+      any-first (holds p x) (slotCount p) 0 ∙ lt-ltb (slotOf p x) (0 + slotCount p) (omega (arith, occupied-in p (slotOf p x) o))
 
 -- where a listed txid has a place, it stands there, and is not the own one
 place-at : (p : Pool) (own x : Txid) (s : ℕ) → isPlaceOf p own x s ≡ true → At p x s × (sameTxid own x ≡ false)

@@ -12,8 +12,9 @@ use Rattle.txids.proofs.Theorems.{same-equal, equal-same}
 use Rattle.pool_table.specs.declared.Entry.{Entry}
 use Rattle.pool_table.specs.Changes.{withCost}
 use Rattle.pool_history.specs.History.{Call, make, add, remove, setCost, clear, totals, template, Event}
-use Rattle.pool_history.specs.Standing.{standsAfter, stands, heldAfter, held, lists, linkedAfter, linked}
-use Rattle.pool_history.specs.Since.{comesOrGoes, neither, Since, costAfter, costSince, isRemoveOf, notRemoved}
+use Rattle.pool_history.specs.Standing.{standsAfter, stands, heldAfter, held, lists, linkedAfter, linked, Board, lowestUnused, boardAfter}
+use Rattle.pool_history.specs.Standing.{board}
+use Rattle.pool_history.specs.Since.{comesOrGoes, neitherCameNorWent, Since, costAfter, costSince, isRemoveOf, notRemoved}
 
 -- ---- one event by which x neither comes nor goes
 
@@ -49,31 +50,50 @@ linked-turn x y clear true stood b r e = clash e refl
 linked-turn x y totals true stood b r e = refl
 linked-turn x y (template w room) true stood b r e = refl
 
+place-turn : (n : ℕ) (x : Txid) (c : Call) (d : Bool) (b : Board) → not (d && comesOrGoes x c) ≡ true
+    → cond d (boardAfter n c b) b .place x ≡ b .place x
+place-turn n x c false b e = refl
+place-turn n x (make l) true b e = clash e refl
+place-turn n x (add i listed) true b e = rw (not-true (sameTxid (i .txid) x) e)
+place-turn n x (remove y) true b e = refl
+place-turn n x (setCost y c) true b e = refl
+place-turn n x clear true b e = clash e refl
+place-turn n x totals true b e = refl
+place-turn n x (template w room) true b e = refl
+
 -- ---- all since the add
 
 module _ (x : Txid) (es : List Event) where
-  stands-over : (newer : List Event) → neither x newer ≡ true → stands (newer ++ es) x ≡ stands es x
+  stands-over : (newer : List Event) → neitherCameNorWent x newer ≡ true → stands (newer ++ es) x ≡ stands es x
   unfolding allOf stands
   stands-over [] e = refl
   stands-over (v ∷ newer) e =
-      let u = and-both (not (v .done && comesOrGoes x (v .call))) (neither x newer) e in
+      let u = and-both (not (v .done && comesOrGoes x (v .call))) (neitherCameNorWent x newer) e in
       stands-turn x (v .call) (v .done) (stands (newer ++ es) x) (u .0) ∙ stands-over newer (u .1)
 
-  held-over : (newer : List Event) → neither x newer ≡ true → held (newer ++ es) x ≡ withCost (costSince x newer (held es x .cost)) (held es x)
+  held-over : (newer : List Event) → neitherCameNorWent x newer ≡ true
+      → held (newer ++ es) x ≡ withCost (costSince x newer (held es x .cost)) (held es x)
   unfolding allOf held costSince
   held-over [] e = refl
   held-over (v ∷ newer) e =
-      let u = and-both (not (v .done && comesOrGoes x (v .call))) (neither x newer) e in
+      let u = and-both (not (v .done && comesOrGoes x (v .call))) (neitherCameNorWent x newer) e in
       ap (λ (i : Entry). cond (v .done) (heldAfter (v .call) x i) i) (held-over newer (u .1))
       ∙ held-turn x (v .call) (v .done) (held es x) (costSince x newer (held es x .cost)) (u .0)
 
-  linked-over : (y : Txid) (newer : List Event) → neither x newer ≡ true → linked (newer ++ es) x y ≡ (linked es x y && notRemoved y newer)
+  linked-over : (y : Txid) (newer : List Event) → neitherCameNorWent x newer ≡ true → linked (newer ++ es) x y ≡ (linked es x y && notRemoved y newer)
   unfolding allOf linked
   linked-over y [] e = sym (and-true (linked es x y))
   linked-over y (v ∷ newer) e =
-      let u = and-both (not (v .done && comesOrGoes x (v .call))) (neither x newer) e in
+      let u = and-both (not (v .done && comesOrGoes x (v .call))) (neitherCameNorWent x newer) e in
       ap (λ (b : Bool). cond (v .done) (linkedAfter (v .call) (stands (newer ++ es)) x y b) b) (linked-over y newer (u .1))
       ∙ linked-turn x y (v .call) (v .done) (stands (newer ++ es)) (linked es x y) (notRemoved y newer) (u .0)
+
+  place-over : (n : ℕ) (newer : List Event) → neitherCameNorWent x newer ≡ true → board n (newer ++ es) .place x ≡ board n es .place x
+  unfolding allOf board
+  place-over n [] e = refl
+  place-over n (v ∷ newer) e =
+      let u = and-both (not (v .done && comesOrGoes x (v .call))) (neitherCameNorWent x newer) e in
+      place-turn n x (v .call) (v .done) (board n (newer ++ es)) (u .0) ∙ place-over n newer (u .1)
 
 -- ---- the theorems
 
@@ -100,6 +120,12 @@ since-linked es x u y =
     rw (equal-same (u .entry .txid) x (u .named)) in
     ap (λ (l : List Event). linked l x y) (u .whole) ∙ linked-over x (first ∷ u .older) y (u .newer) (u .kept)
     ∙ ap (λ (b : Bool). b && notRemoved y (u .newer)) own
+
+pub since-place : (n : ℕ) (es : List Event) (x : Txid) (u : Since es x) → board n es .place x ≡ lowestUnused n (board n (u .older))
+unfolding board
+since-place n es x u =
+    ap (λ (l : List Event). board n l .place x) (u .whole) ∙ place-over x _ n (u .newer) (u .kept)
+    ∙ rw (equal-same (u .entry .txid) x (u .named))
 
 -- one event more
 since-more : (v : Event) (es : List Event) (x : Txid) → not (v .done && comesOrGoes x (v .call)) ≡ true → Since es x → Since (v ∷ es) x

@@ -1,5 +1,5 @@
 -- Demand 3, for readers: "From an empty pool, after any sequence of pool calls, refused ones included". `History lent es t`: a pool was made
--- on the table `lent`, `es` are the calls since and that making, the latest first, each with whether it succeeded, and t is the table now.
+-- on the table `lent`, `es` are that making and the calls since, the latest first, each with whether it succeeded, and t is the table now.
 -- What stands by them is in specs/Standing.antt, without a pool. No proof of a function cites these. Assumes nothing.
 use mathlib.Core.Path.{_≡_, refl, sym, ap, _∙_, subst}
 use mathlib.Core.Bool.{true, false, not, _&&_}
@@ -8,16 +8,19 @@ use mathlib.Core.List.{List, [], _∷_, _++_}
 use Prim.Native.Nat.{ℕ, _+_, _≤_}
 use native.Mathlib.Omega.{arith}
 use lib.Dec.{eqb}
-use lib.ListN.{length}
+use lib.ListN.{length, drop}
 use borrow.Author.Tests.{ne-eqb}
 use Rattle.lists.specs.Lists.{elem, distinct, overwrite}
+use Rattle.refusals.specs.declared.Reply.{Reply}
 use Rattle.refusals.specs.Refusals.{answerOf, replyOf, keptUnless, refusal, success}
+use Rattle.refusals.proofs.Lines.{Takes, succeeds, writes}
 use Rattle.txids.specs.declared.Txid.{Txid}
 use Rattle.txids.specs.Txids.{sameTxid}
 use Rattle.weights.specs.Weights.{virtualSize}
 use Rattle.ways.specs.Ways.{Way}
 use Rattle.pool_table.specs.declared.Entry.{Entry}
 use Rattle.pool_table.specs.declared.Limits.{Limits}
+use Rattle.pool_table.specs.declared.Side.the-variants.{Parents}
 use Rattle.pool_table.specs.Pool.{Pool, slotAt, slotCount, occupied, entries}
 use Rattle.pool_table.specs.Words.{poolOf, tableOf}
 use Rattle.pool_table.specs.Changes.{withCost}
@@ -29,30 +32,32 @@ use Rattle.pool_rules.specs.Module8.{isIn, slotOf, isListed}
 use Rattle.pool_rules.specs.Calls.{noSlot, placed, makeAnswer, afterMake, addReply, afterAdd, namedReply, afterRemove, afterSetCost, clearAnswer}
 use Rattle.pool_rules.specs.Calls.{afterClear, totalsReply}
 use Rattle.template_rules.specs.Filling as filling
-use Rattle.template_rules.specs.Calls.{templateReply, templateRoom}
+use Rattle.template_rules.specs.Calls.{templateRefusals, templateReply, templateRoom}
 use Rattle.template_rules.proofs.Theorems as rules
 use Rattle.template_rules.proofs.Theorems.{Allowed}
 use Rattle.pool_history.specs.History.{Call, template, answerTo, tableAfter, slotsOn, Event, History, next}
-use Rattle.pool_history.specs.Standing.{stands, held, lists, linked, allAdded, allRemoved, weightOfEntry, oneEach, howMany, totalWeight, board}
-use Rattle.pool_history.specs.Standing.{lowestUnused, limitsNow, isAbout, isAboutLink, standing}
+use Rattle.pool_history.specs.Standing.{stands, whoStand, occurs, noneTwice, held, lists, linked, allAdded, allRemoved, weightOfEntry, oneEach}
+use Rattle.pool_history.specs.Standing.{howMany, totalWeight, board, lowestUnused, limitsNow, isAbout, isAboutLink, standing}
 use Rattle.pool_history.specs.Since.{Since, costSince, notRemoved}
 use Rattle.pool_history.specs.Kin.{Kin, Joining}
 use Rattle.pool_history.specs.Replies.{addRefusalsBy, namedRefusalsBy, templateRefusalsBy, refusalsBy, eventsOf, callsOf}
-use Rattle.pool_history.proofs.Plain.{parent-names, parent-is}
+use Rattle.pool_history.proofs.Plain.{parent-names, namer}
 use Rattle.pool_history.proofs.Kept.{Kept, well-kept}
+use Rattle.pool_history.proofs.Answers.{can-template}
 use Rattle.pool_history.proofs.Steps as steps
 use Rattle.pool_history.proofs.Places.{At, at-slot}
 use Rattle.pool_history.proofs.Account.{account}
 use Rattle.pool_history.proofs.Follows.{Follows, follows, follows-plain, follows-length, follows-pool, follows-table}
 use Rattle.pool_history.proofs.Replies as replies
-use Rattle.pool_history.proofs.Since.{since-stands, since-holds, since-linked, stands-since}
+use Rattle.pool_history.proofs.Since.{since-stands, since-holds, since-linked, since-place, stands-since}
 use Rattle.pool_history.proofs.Kin as kin
-use Rattle.pool_history.proofs.Others.{Same, other-same, link-same, ends-stay}
+use Rattle.pool_history.proofs.Who.{who-stands, counted, as-many}
+use Rattle.pool_history.proofs.Others.{Same, other-same, link-same}
 
 -- a history goes on with a call that succeeds
-pub went : {lent : List ℕ} {es : List Event} {t : List ℕ} → History lent es t → (c : Call) → answerTo t c ≡ 0
+pub goes-on : {lent : List ℕ} {es : List Event} {t : List ℕ} → History lent es t → (c : Call) → answerTo t c ≡ 0
     → History lent (record { call = c; done = true } ∷ es) (tableAfter t c)
-went {lent} {es} {t} h c z = subst (λ (k : ℕ). History lent (record { call = c; done = eqb k 0 } ∷ es) (tableAfter t c)) z (next c h)
+goes-on {lent} {es} {t} h c z = subst (λ (k : ℕ). History lent (record { call = c; done = eqb k 0 } ∷ es) (tableAfter t c)) z (next c h)
 
 module _ {lent : List ℕ} {es : List Event} {t : List ℕ} (h : History lent es t) where
   -- how many slots the pool has
@@ -65,18 +70,21 @@ module _ {lent : List ℕ} {es : List Event} {t : List ℕ} (h : History lent es
   kept : Kept (poolOf t)
   kept = well-kept t (so .well)
 
-  -- ---- "parents and children name each other, no parent chain closes on itself, and no cluster passes the pool's count or size limit"
+  -- ---- what holds of the links
 
+  -- "parents and children name each other"
   pub parents-and-children : (a b : ℕ) → isParent (poolOf t) a b ≡ isChild (poolOf t) b a
   parents-and-children = steps.name-each-other kept
 
+  -- "no parent chain closes on itself"
   pub no-chain-closes : (a : ℕ) → Way (isParent (poolOf t)) a a → ⊥
   no-chain-closes = steps.no-chain-closes kept
 
-  -- the limits are those of the last making that succeeded
+  -- "and no cluster passes the pool's count .. limit": the one of the last making that succeeded
   pub cluster-count : (s : ℕ) → occupied (poolOf t) s ≡ true → countOf (poolOf t) (inCluster (poolOf t) s) ≤ limitsNow es .count
   cluster-count s o = omega (arith, steps.within-count kept s o, ap (λ (l : Limits). l .count) (so .right .limits))
 
+  -- "or size limit": its raw weight together, as virtual size
   pub cluster-size : (s : ℕ) → occupied (poolOf t) s ≡ true → virtualSize (weightOf (poolOf t) (inCluster (poolOf t) s)) ≤ limitsNow es .size
   cluster-size s o = omega (arith, steps.within-size kept s o, ap (λ (l : Limits). l .size) (so .right .limits))
 
@@ -110,10 +118,15 @@ module _ {lent : List ℕ} {es : List Event} {t : List ℕ} (h : History lent es
       → slotAt (poolOf t) (slotOf (poolOf t) x) .entry ≡ withCost (costSince x (u .newer) (u .entry .cost)) (u .entry)
   holds-since x u = entry-holds x (since-stands es x u) ∙ since-holds es x u
 
-  -- "Adding takes the lowest free slot; a freed slot is free."
+  -- "Adding takes the lowest free slot"
   pub entry-place : (x : Txid) → stands es x ≡ true → slotOf (poolOf t) x ≡ board n es .place x
   entry-place = replies.follows-slot so
 
+  -- it was the lowest that was not in use when the entry was added
+  pub place-since : (x : Txid) (u : Since es x) → slotOf (poolOf t) x ≡ lowestUnused n (board n (u .older))
+  place-since x u = entry-place x (since-stands es x u) ∙ since-place n es x u
+
+  -- "a freed slot is free."
   pub slot-used : (s : ℕ) → occupied (poolOf t) s ≡ board n es .used s
   slot-used = so .right .used
 
@@ -126,34 +139,47 @@ module _ {lent : List ℕ} {es : List Event} {t : List ℕ} (h : History lent es
       (so .right .told x s a .stands, at-slot (follows-plain so) a)
 
   -- "A listed parent not in the pool, the own txid, or a repeat is ignored. Every other listed parent is linked, both ways, and a link stands
-  -- until one of its ends is removed or the pool is cleared or made anew."
-  pub link-stands : (x y : Txid) → stands es x ≡ true → stands es y ≡ true
-      → isParent (poolOf t) (slotOf (poolOf t) x) (slotOf (poolOf t) y) ≡ linked es x y
-  link-stands x y u v =
-      let a = slotOf (poolOf t) x in
-      let b = slotOf (poolOf t) y in
-      parent-is (follows-plain so) a b ∙ so .right .links x y a b (replies.follows-at so x u) (replies.follows-at so y v)
+  -- until one of its ends is removed or the pool is cleared or made anew." A txid that does not stand has no slot and no link
+  pub link-stands : (x y : Txid) → isParent (poolOf t) (slotOf (poolOf t) x) (slotOf (poolOf t) y) ≡ linked es x y
+  link-stands = kin.follows-link so
 
   pub link-ends : (x y : Txid) → linked es x y ≡ true → (stands es x ≡ true) × (stands es y ≡ true)
   link-ends = so .right .ends
 
   -- the child's add listed the parent, which stood then and was not the child itself, and has not been removed since
-  pub link-since : (x y : Txid) (u : Since es x) → stands es y ≡ true
+  pub link-since : (x y : Txid) (u : Since es x)
       → isParent (poolOf t) (slotOf (poolOf t) x) (slotOf (poolOf t) y)
       ≡ ((lists (u .listed) y && (stands (u .older) y && not (sameTxid x y))) && notRemoved y (u .newer))
-  link-since x y u v = link-stands x y (since-stands es x u) v ∙ since-linked es x u y
+  link-since x y u = link-stands x y ∙ since-linked es x u y
 
-  -- no slot names another without such a link
+  -- no slot names another without such a link, and both are in use
   pub link-holds : (a b : ℕ) → isParent (poolOf t) a b ≡ true
-      → linked es (slotAt (poolOf t) a .entry .txid) (slotAt (poolOf t) b .entry .txid) ≡ true
-  link-holds a b e = kin.parent-link so a b (parent-names (poolOf t) a b e)
+      → (occupied (poolOf t) a ≡ true) × (occupied (poolOf t) b ≡ true)
+      × (linked es (slotAt (poolOf t) a .entry .txid) (slotAt (poolOf t) b .entry .txid) ≡ true)
+  link-holds a b e =
+      let k = parent-names (poolOf t) a b e in
+      (namer (follows-plain so) Parents a b k, follows-plain so .named Parents a b k, kin.parent-link so a b k)
 
-  -- "The total weight equals all weights added less all removed, since the last clear or making", and the entries are as many
+  -- "The total weight equals all weights added less all removed, since the last clear or making."
   pub total-stands : poolOf t .total + allRemoved weightOfEntry es ≡ allAdded weightOfEntry es
   total-stands = so .right .total
 
+  -- "a made-up number of entries" is shut out: they are all that were added less all that were removed since then
   pub count-stands : entries (poolOf t) + allRemoved oneEach es ≡ allAdded oneEach es
   count-stands = so .right .entries
+
+  -- and they are as many as stand: this list has each that stands, none twice, and is as long
+  pub who-occurs : (x : Txid) → occurs x (whoStand es) ≡ stands es x
+  who-occurs = who-stands es
+
+  pub who-once : noneTwice (whoStand es) ≡ true
+  who-once = counted h .once
+
+  pub who-many : length (whoStand es) ≡ howMany es
+  who-many = as-many (counted h)
+
+  pub who-entries : entries (poolOf t) ≡ length (whoStand es)
+  who-entries = replies.follows-entries so ∙ sym who-many
 
   -- "stores both limits and the bytes per sigop, kept until it is made anew"
   pub limits-stand : poolOf t .limits ≡ limitsNow es
@@ -198,6 +224,14 @@ module _ {lent : List ℕ} {es : List Event} {t : List ℕ} (h : History lent es
       → inClusters (poolOf t) (isListed (poolOf t) own listed) (slotOf (poolOf t) y) ≡ true
   joining-clusters = kin.joining-follows so
 
+  -- so that the numbers of 8 and 9 count no free slot
+  pub cluster-held : (s b : ℕ) → occupied (poolOf t) s ≡ true → inCluster (poolOf t) s b ≡ true → occupied (poolOf t) b ≡ true
+  cluster-held = kin.follows-held so
+
+  pub clusters-held : (own : Txid) (listed : List ℕ) (b : ℕ) → inClusters (poolOf t) (isListed (poolOf t) own listed) b ≡ true
+      → occupied (poolOf t) b ≡ true
+  clusters-held = kin.joined-held so
+
   -- "add, remove and set-cost (each answers the slot)"
   pub add-answers : (e : Entry) (listed : List ℕ)
       → addReply t e listed ≡ replyOf noSlot (addRefusalsBy n es e listed) (placed (lowestUnused n (board n es)))
@@ -210,10 +244,9 @@ module _ {lent : List ℕ} {es : List Event} {t : List ℕ} (h : History lent es
   pub totals-answers : totalsReply t ≡ record { answer = 0; entries = howMany es; weight = totalWeight es }
   totals-answers = replies.follows-totals so
 
-  -- ---- "a template that is answered equals demand 2's, names no transaction twice and each after all its ancestors in the pool, with raw
-  -- weight within the budget and, unless it is empty, sigops plus reserve at most 80,000"
+  -- ---- templates
 
-  -- the template of the pool that stands: its length is answered, and the room holds it from its start
+  -- by the calls alone: which refusal, else the length of the template of the pool that stands, and the room that begins with it
   pub template-answers : (w : filling.Settings) (room : List ℕ)
       → templateReply t w room ≡ replyOf refusal (templateRefusalsBy n es w room) (success (length (filling.template (standing n es) w)))
   template-answers = replies.follows-template so
@@ -223,26 +256,47 @@ module _ {lent : List ℕ} {es : List Event} {t : List ℕ} (h : History lent es
   template-writes = replies.follows-room so
 
   module _ (w : filling.Settings) where
-    pub template-once : distinct (filling.template (poolOf t) w) ≡ true
+    -- the template of the pool, of which all below speaks
+    abbrev chosen : List ℕ
+    chosen = filling.template (poolOf t) w
+
+    -- it is the one of the pool that stands, of which the two above speak
+    pub template-stands : chosen ≡ filling.template (standing n es) w
+    template-stands = ap (λ (p : Pool). filling.template p w) pool-stands
+
+    -- "a template that is answered equals demand 2's": its length is answered, and the room begins with it
+    pub template-answered : (room : List ℕ) → answerTo t (template w room) ≡ 0
+        → (templateReply t w room .written ≡ length chosen) × (length chosen ≤ length room)
+        × (templateRoom t w room ≡ chosen ++ drop (length chosen) room)
+    unfolding templateReply templateRoom
+    template-answered room z =
+        let y : answerOf (templateRefusals t w room) ≡ 0 = sym (steps.answer-is t (template w room)) ∙ z in
+        let none : Takes (templateRefusals t w room) = record { answer = y } in (
+          sym (ap (λ (r : Reply). r .written) (succeeds refusal (success (length chosen)) none refl)),
+          omega (arith, rules.template-few (poolOf t) (kept .good) (kept .few) w, can-template t w room y),
+          sym (writes room (overwrite chosen room) none refl),
+        )
+
+    -- "names no transaction twice": no slot, and slots and transactions are one for one
+    pub template-once : distinct chosen ≡ true
     template-once = rules.template-once (poolOf t) (kept .good) (kept .few) w
 
-    -- slots and transactions are one for one
-    pub template-names : (a b : ℕ) → elem a (filling.template (poolOf t) w) ≡ true → elem b (filling.template (poolOf t) w) ≡ true
+    pub template-names : (a b : ℕ) → elem a chosen ≡ true → elem b chosen ≡ true
         → slotAt (poolOf t) a .entry .txid ≡ slotAt (poolOf t) b .entry .txid → a ≡ b
     template-names a b i j =
-        let held : (s : ℕ) → elem s (filling.template (poolOf t) w) ≡ true → occupied (poolOf t) s ≡ true =
-        rules.template-held (poolOf t) (kept .good) (kept .few) w in
+        let held : (s : ℕ) → elem s chosen ≡ true → occupied (poolOf t) s ≡ true = rules.template-held (poolOf t) (kept .good) (kept .few) w in
         follows-plain so .distinct a b (held a i) (held b j)
 
-    pub template-after : (xs ys : List ℕ) (s a : ℕ) → filling.template (poolOf t) w ≡ xs ++ (s ∷ ys) → Way (isParent (poolOf t)) s a
-        → elem a xs ≡ true
+    -- "and each after all its ancestors in the pool"
+    pub template-after : (xs ys : List ℕ) (s a : ℕ) → chosen ≡ xs ++ (s ∷ ys) → Way (isParent (poolOf t)) s a → elem a xs ≡ true
     template-after = rules.template-after (poolOf t) (kept .good) (kept .few) w
 
-    pub template-budget : filling.rawSum (poolOf t) (filling.template (poolOf t) w) ≤ w .terms .budget .0
+    -- "with raw weight within the budget"
+    pub template-budget : filling.rawSum (poolOf t) chosen ≤ w .terms .budget .0
     template-budget = rules.template-budget (poolOf t) (kept .good) (kept .few) w
 
-    pub template-sigops : (filling.template (poolOf t) w ≡ [])
-        ⊎ (filling.costSum (poolOf t) (filling.template (poolOf t) w) + w .terms .reserve ≤ 80000)
+    -- "and, unless it is empty, sigops plus reserve at most 80,000"
+    pub template-sigops : (chosen ≡ []) ⊎ (filling.costSum (poolOf t) chosen + w .terms .reserve ≤ 80000)
     template-sigops = rules.template-sigops (poolOf t) (kept .good) (kept .few) w
 
 -- ---- nothing is lost
@@ -276,17 +330,13 @@ module _ {lent : List ℕ} {es : List Event} {t : List ℕ} (h : History lent es
         )
 
   -- "or any other link"
-  pub other-link : (x y : Txid) → isAboutLink c x y ≡ false → isIn p x ≡ true → isIn p y ≡ true
+  pub other-link : (x y : Txid) → isAboutLink c x y ≡ false
       → isParent q (slotOf q x) (slotOf q y) ≡ isParent p (slotOf p x) (slotOf p y)
-  other-link x y e i j =
-      let b = eqb (answerTo t c) 0 in
-      let u : stands es x ≡ true = sym (entry-stands h x) ∙ i in
-      let v : stands es y ≡ true = sym (entry-stands h y) ∙ j in
-      let s = ends-stay (slotsOn lent) es c b x y e u v in
-      link-stands (next c h) x y (s .0) (s .1) ∙ link-same (slotsOn lent) es c b x y e ∙ sym (link-stands h x y u v)
+  other-link x y e = link-stands (next c h) x y ∙ link-same (slotsOn lent) es c (eqb (answerTo t c) 0) x y e ∙ sym (link-stands h x y)
 
 -- ---- "prove that any two outcomes allowed by one contract coincide": of each pool call on any table, what it answers and what it leaves; of
--- template it is `template-outcome` of template_rules
+-- template it is `template-outcome` of template_rules. `Allowed reply after a l`, of template_rules/proofs/Theorems.antt: a is that reply, and
+-- l is what is to be left
 
 coincide : {R : Type 0} {reply a b : R} {after l m : List ℕ} → Allowed reply after a l → Allowed reply after b m → (a ≡ b) × (l ≡ m)
 coincide x y = (x .answers ∙ sym (y .answers), x .leaves ∙ sym (y .leaves))

@@ -15,7 +15,9 @@ use Rattle.pool_rules.specs.Calls.{totalsReply}
 use Rattle.template_rules.specs.Filling.{Settings}
 use Rattle.template_rules.specs.Calls.{templateReply}
 
--- the pool calls. An add has its entry and the bytes of its parents' txids, a template its settings and its room
+-- the pool calls. An add has its entry and the bytes of its parents' txids, a template its settings and its room. As the contracts have it,
+-- the program's add is `add (entryOf txid fee weight cost) parents`, and its remove and set_cost name `txidAt txid 0`, each of the 32 bytes
+-- that it is given: so two calls name one txid exactly where their bytes are the same (`same-bytes` of txids)
 pub data Call : Type 0 where
   make : Limits → Call
   add : Entry → List ℕ → Call

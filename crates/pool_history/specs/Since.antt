@@ -10,7 +10,8 @@ use Rattle.txids.specs.Txids.{sameTxid}
 use Rattle.pool_table.specs.declared.Entry.{Entry}
 use Rattle.pool_history.specs.History.{Call, make, add, remove, setCost, clear, totals, template, Event}
 
--- whether a txid comes or goes by a call that succeeds
+-- whether a txid comes or goes by a call that succeeds. It is `isAbout` of specs/Standing.antt but for one line: a set-cost is about an entry
+-- that neither comes nor goes by it
 abbrev pub comesOrGoes : Txid → Call → Bool
 comesOrGoes x (make l) = true
 comesOrGoes x (add e listed) = sameTxid (e .txid) x
@@ -21,8 +22,8 @@ comesOrGoes x totals = false
 comesOrGoes x (template w room) = false
 
 -- no such call succeeded
-abbrev pub neither : Txid → List Event → Bool
-neither x es = allOf (λ e. not (e .done && comesOrGoes x (e .call))) es
+abbrev pub neitherCameNorWent : Txid → List Event → Bool
+neitherCameNorWent x es = allOf (λ e. not (e .done && comesOrGoes x (e .call))) es
 
 -- an add of this txid succeeded, and since then no making, no clear and no remove of it: that add, the events after it and those before it,
 -- the latest first
@@ -33,7 +34,7 @@ pub record Since (es : List Event) (x : Txid) : Type 0 where
   pub older : List Event
   pub whole : es ≡ newer ++ (record { call = add entry listed; done = true } ∷ older)
   pub named : entry .txid ≡ x
-  pub kept : neither x newer ≡ true
+  pub kept : neitherCameNorWent x newer ≡ true
 
 -- "save a cost set later": the cost that the add gave, or that of the last set-cost of it that succeeded since
 abbrev pub costAfter : Txid → Call → ℕ → ℕ

@@ -4,7 +4,8 @@ use Prim.Native.Nat.{ℕ, _+_, _-_, _*_}
 use mathlib.Core.Bool.{Bool, true, false, cond, not, _&&_, _||_}
 use mathlib.Core.List.{List, [], _∷_}
 use lib.Dec.{eqb}
-use Rattle.lists.specs.Below.{anyFrom, firstFrom}
+use Rattle.lists.specs.Below.{keepIf, anyFrom, firstFrom}
+use Rattle.lists.specs.Lists.{anyOf}
 use Rattle.txids.specs.declared.Txid.{Txid}
 use Rattle.txids.specs.Txids.{sameTxid, txidAt, listedCount}
 use Rattle.slotsets.specs.SlotSets.{setOf}
@@ -30,6 +31,32 @@ standsAfter (template w room) x before = before
 unfoldable pub stands : List Event → Txid → Bool
 stands [] x = false
 stands (e ∷ es) x = cond (e .done) (standsAfter (e .call) x (stands es x)) (stands es x)
+
+-- the same as a list, the latest added first
+unfoldable pub without : Txid → List Txid → List Txid
+without y [] = []
+without y (x ∷ xs) = keepIf (not (sameTxid y x)) x (without y xs)
+
+abbrev pub whoAfter : Call → List Txid → List Txid
+whoAfter (make l) before = []
+whoAfter (add e listed) before = e .txid ∷ before
+whoAfter (remove y) before = without y before
+whoAfter (setCost y c) before = before
+whoAfter clear before = []
+whoAfter totals before = before
+whoAfter (template w room) before = before
+
+unfoldable pub whoStand : List Event → List Txid
+whoStand [] = []
+whoStand (e ∷ es) = cond (e .done) (whoAfter (e .call) (whoStand es)) (whoStand es)
+
+-- whether a list has this txid, and whether it has none twice
+abbrev pub occurs : Txid → List Txid → Bool
+occurs x xs = anyOf (λ y. sameTxid y x) xs
+
+unfoldable pub noneTwice : List Txid → Bool
+noneTwice [] = true
+noneTwice (x ∷ xs) = not (occurs x xs) && noneTwice xs
 
 -- ---- what each entry holds
 
