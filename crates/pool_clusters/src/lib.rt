@@ -1,8 +1,9 @@
-// The clusters of a pool, by a flood fill that reads each slot's links once: the clusters of some slots together, and whether each cluster
-// of a table of any content stays within the table's limits.
+// The clusters of a pool, by a flood fill that reads each slot's links once: the cluster of a slot, the clusters of some slots together, and
+// whether each cluster of a table of any content stays within the table's limits.
 ghost use mathlib.Core.Path.{_≡_};
 ghost use mathlib.Core.Bool.{not, _&&_, _||_};
 ghost use Prim.Native.Nat.{ℕ, _+_, _<_, min};
+ghost use lib.Dec.{ltb};
 ghost use lib.ListN.{length};
 ghost use Rattle.txset.specs.Sets.{hasIn};
 ghost use Rattle.weights.specs.Weights.{most};
@@ -143,40 +144,18 @@ fn gather(table: &[u64], all: &[u64], seeds: &[u64], limit: usize) -> Part
     }
 }
 
-// The clusters of the seeds, whole, for any table.
-fn gather_all(table: &[u64], seeds: &[u64]) -> Part
-    ensures { λ r. ⌜ ((i : ℕ) → hasIn (r .found) i
-        ≡ (isLegal (length (now (table .entry))) && inClusters (poolOf (now (table .entry))) (hasIn (now (seeds .entry))) i)) ⌝ }
-    ensures { λ r. ⌜ r .union ≡ clustersOf (now (table .entry)) (hasIn (now (seeds .entry))) ⌝ }
-{
-    if !is_legal(table) {
-        return Part {
-            found: [0u64; 16],
-            union: Union {
-                count: 0,
-                weight: RawWeight(0),
-            },
-            whole: true,
-        };
-    }
-    let all = below(slots(table));
-    gather(table, &all, seeds, CAPACITY)
-}
-
-// The members of the clusters of the seeds. Seeds that are no slots are passed over.
-pub fn flood(table: &[u64], seeds: &[u64]) -> [u64; 16]
-    ensures { λ r. ⌜ ((i : ℕ) → hasIn r i
-        ≡ (isLegal (length (now (table .entry))) && inClusters (poolOf (now (table .entry))) (hasIn (now (seeds .entry))) i)) ⌝ }
-{
-    let part = gather_all(table, seeds);
-    part.found
-}
-
-// How many members the clusters of the seeds have together, and their weight.
+// How many members the clusters of the seeds have together, and their weight. Seeds that are no slots are passed over.
 pub fn clusters_of(table: &[u64], seeds: &[u64]) -> Union
     ensures { λ r. ⌜ r ≡ clustersOf (now (table .entry)) (hasIn (now (seeds .entry))) ⌝ }
 {
-    let part = gather_all(table, seeds);
+    if !is_legal(table) {
+        return Union {
+            count: 0,
+            weight: RawWeight(0),
+        };
+    }
+    let all = below(slots(table));
+    let part = gather(table, &all, seeds, CAPACITY);
     part.union
 }
 
@@ -200,6 +179,23 @@ fn cluster(table: &[u64], all: &[u64], a: usize, limit: usize) -> Part
         },
         whole: 0 < limit,
     }
+}
+
+// The members of the cluster of slot a: none where there is no such slot.
+pub fn cluster_of(table: &[u64], a: usize) -> [u64; 16]
+    ensures { λ r. ⌜ ((i : ℕ) → hasIn r i ≡ (isLegal (length (now (table .entry)))
+        && (ltb a (slotCount (poolOf (now (table .entry)))) && inCluster (poolOf (now (table .entry))) a i))) ⌝ }
+{
+    if !is_legal(table) {
+        return [0u64; 16];
+    }
+    let n = slots(table);
+    if n <= a {
+        return [0u64; 16];
+    }
+    let all = below(n);
+    let part = cluster(table, &all, a, CAPACITY);
+    part.found
 }
 
 // Whether no cluster passes a limit, for a table of any content. Links may go one way, so that clusters overlap: a slot that was seen in a

@@ -1,18 +1,17 @@
 use mathlib.Core.Path.{_≡_, sym, ap, _∙_}
-use mathlib.Core.Bool.{Bool, true, false, cond, _&&_}
+use mathlib.Core.Bool.{Bool, true, false, cond}
 use lib.ListN.{length}
 use borrow.Author.Tests.{not-true, not-false}
 use borrow.Author.Needs.{needs}
 use Rattle.txset.specs.Sets.{hasIn}
-use Rattle.txset.proofs.Words.{hasIn-zeros}
 use Rattle.pool_table.specs.Words.{isLegal, poolOf}
 use Rattle.pool_table.specs.Links.{inClusters}
 use Rattle.pool_clusters.specs.Clusters.{unionOf, noUnion, clustersOf}
 use Rattle.pool_table.proofs.Legal.{few-slots}
 use Rattle.pool_clusters.proofs.Words.{all-slots}
 use Rattle.pool_clusters.proofs.Gathering.{never-more}
-use Rattle.pool_clusters.proofs.gather_all.Statement.{statement}
-use Rattle.pool_clusters.proofs.gather_all.Tie as tie
+use Rattle.pool_clusters.proofs.clusters_of.Statement.{statement}
+use Rattle.pool_clusters.proofs.clusters_of.Tie as tie
 
 -- a legal length was told from any other
 illegal : (c : tie.Then1) → isLegal (length (c .before .before .before .before .args .table .now)) ≡ false
@@ -26,10 +25,7 @@ unfolding clustersOf
 returns c =
     let args = c .before .before .before .before .args in
     let p = poolOf (args .table .now) in
-    let f = inClusters p (hasIn (args .seeds .now)) in (
-      λ i. hasIn-zeros 16 i ∙ ap (λ (b : Bool). b && f i) (sym (illegal c)),
-      ap (λ (b : Bool). cond b (unionOf p f) noUnion) (sym (illegal c)),
-    )
+    ap (λ (b : Bool). cond b (unionOf p (inClusters p (hasIn (args .seeds .now)))) noUnion) (sym (illegal c))
 
 gather-requires : tie.Need-gather-requires
 gather-requires c κs =
@@ -40,17 +36,16 @@ gather-requires c κs =
 returns-2 : tie.Need-returns-2
 unfolding clustersOf
 returns-2 c =
-    let else = c .before .before .before .before in
+    let found = c .before .gather in
+    let else = c .before .before .before .before .before in
     let args = else .before .before .before .before .args in
     let p = poolOf (args .table .now) in
     let f = inClusters p (hasIn (args .seeds .now)) in
-    let whole = never-more p f (c .gather .result) (few-slots (args .table .now) (legal else)) (c .gather .ensures) in (
-      λ i. c .gather .ensures .found whole i ∙ ap (λ (b : Bool). b && f i) (sym (legal else)),
-      c .gather .ensures .union whole ∙ ap (λ (b : Bool). cond b (unionOf p f) noUnion) (sym (legal else)),
-    )
+    found .ensures .union (never-more p f (found .result) (few-slots (args .table .now) (legal else)) (found .ensures))
+    ∙ ap (λ (b : Bool). cond b (unionOf p f) noUnion) (sym (legal else))
 
-pub gather-all-spec : {M : Type 1} → statement M
-gather-all-spec =
+pub clusters-of-spec : {M : Type 1} → statement M
+clusters-of-spec =
     tie.close
     (tie.spec
     (λ c κs. search needs)
