@@ -144,7 +144,8 @@ module _ (p : Pool) (few : slotCount p ≤ capacity) (sound : Sound p) where
     members-limit =
         let f : ℕ → Bool = λ s. not (occupied p s) || isWithin p (inCluster p s) in
         let w = all-at f (slotCount p) 0 (sound .within) s (omega arith) (omega (arith, occupied-in p s taken)) in
-        let m = and-both _ _ (given (occupied p s) (isWithin p (inCluster p s)) taken w) .0 in
+        let m : leb (countOf p (inCluster p s)) (p .limits .count) ≡ true =
+        and-both _ _ (given (occupied p s) (isWithin p (inCluster p s)) taken w) .0 in
         omega (arith, members-count, leb-true (countOf p (inCluster p s)) (p .limits .count) m)
       where
         given : (b c : Bool) → b ≡ true → (not b || c) ≡ true → c ≡ true
@@ -208,7 +209,7 @@ module _ (p : Pool) (few : slotCount p ≤ capacity) (sound : Sound p) where
 
   -- ---- the clusters of the pool
 
-  lead-member : (s : ℕ) → occupied p s ≡ true → elem (leadOf p s) (membersOf p s) ≡ true
+  pub lead-member : (s : ℕ) → occupied p s ≡ true → elem (leadOf p s) (membersOf p s) ≡ true
   unfolding leadOf
   lead-member s o = first-elem (membersOf p s) s (own-member s o)
 

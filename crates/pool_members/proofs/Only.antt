@@ -7,7 +7,7 @@ use Prim.Native.Nat.{ℕ, zero, suc, _+_, _≤_, _<_}
 use native.Mathlib.Nat.{add-zero, zero-add, not-suc-le-zero, le-of-suc-le-suc}
 use native.Mathlib.Omega.{arith}
 use lib.Dec.{eqb}
-use lib.ListN.{length, getD}
+use lib.ListN.{length, getD, take}
 use borrow.Author.Tests.{eqb-true, not-true}
 use Rattle.lists.specs.Below.{keepIf, bit, countFrom, listFrom}
 use Rattle.lists.specs.Lists.{anyOf, only, elem, distinct}
@@ -69,6 +69,22 @@ length-only f (x ∷ xs) = kept (f x) (length-only f xs)
     kept : (b : Bool) → length (only f xs) ≤ length xs → length (keepIf b x (only f xs)) ≤ suc (length xs)
     kept true h = omega arith
     kept false h = omega arith
+
+pub only-append : (f : ℕ → Bool) (xs ys : List ℕ) → only f (xs ++ ys) ≡ only f xs ++ only f ys
+unfolding only
+only-append f [] ys = refl
+only-append f (x ∷ xs) ys =
+    let rest = only-append f xs ys in cases (f x) (λ e. rw e (ap (λ (l : List ℕ). x ∷ l) rest)) (λ e. rw e rest)
+
+-- the first that has it stands no later than any that has it
+pub only-first : (f : ℕ → Bool) (xs : List ℕ) (i d : ℕ) → i < length xs → f (getD xs i 0) ≡ true
+    → elem (getD (only f xs) 0 d) (take (suc i) xs) ≡ true
+unfolding only
+only-first f [] i d l e = absurd (not-suc-le-zero l)
+only-first f (x ∷ xs) zero d l e = rw e (elem-head x [])
+only-first f (x ∷ xs) (suc i) d l e =
+    cases (f x) (λ q. rw q (elem-head x (take (suc i) xs)))
+    (λ q. rw q (elem-tail (getD (only f xs) 0 d) x (take (suc i) xs) (only-first f xs i d (le-of-suc-le-suc l) e)))
 
 -- the places of those that have it, upwards: `ys` goes on from place d as `xs` does
 places : (f : ℕ → Bool) (ys xs : List ℕ) (d : ℕ) → ((j : ℕ) → getD ys (d + j) 0 ≡ getD xs j 0)
@@ -133,10 +149,14 @@ distinct-append (x ∷ xs) ys d e h =
 
 -- ---- lists of lists put together
 
+pub flatten-append : (xss yss : List (List ℕ)) → flatten (xss ++ yss) ≡ flatten xss ++ flatten yss
+unfolding flatten
+flatten-append [] yss = refl
+flatten-append (xs ∷ xss) yss = ap (λ (l : List ℕ). xs ++ l) (flatten-append xss yss) ∙ sym (append-assoc xs (flatten xss) (flatten yss))
+
 pub flatten-snoc : (xss : List (List ℕ)) (xs : List ℕ) → flatten (xss ++ (xs ∷ [])) ≡ flatten xss ++ xs
 unfolding flatten
-flatten-snoc [] xs = append-nil xs
-flatten-snoc (ys ∷ xss) xs = ap (λ (l : List ℕ). ys ++ l) (flatten-snoc xss xs) ∙ sym (append-assoc ys (flatten xss) xs)
+flatten-snoc xss xs = flatten-append xss (xs ∷ []) ∙ ap (λ (l : List ℕ). flatten xss ++ l) (append-nil xs)
 
 -- one of the lists that has x
 pub record Among (f : ℕ → List ℕ) (ls : List ℕ) (x : ℕ) : Type 0 where

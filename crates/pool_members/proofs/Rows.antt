@@ -1,13 +1,16 @@
 -- Laws of specs/Rows.antt: no part at all, one part more, and what stands at part k. Assumes nothing.
 use mathlib.Core.Path.{_≡_, refl, sym, ap, ap₂, _∙_, subst}
 use mathlib.Core.Logic.{⊎-elim}
-use mathlib.Core.List.{List, [], _∷_, _++_, flatten}
+use mathlib.Core.List.{List, [], _∷_, _++_, append-assoc, flatten}
 use Prim.Native.Nat.{ℕ, zero, suc, _+_, _-_, _≤_, _<_}
 use native.Mathlib.Nat.{zero-add, suc-add}
 use native.Mathlib.Omega.{arith}
-use lib.ListN.{length, getD, set, take, drop, length-append, List·getD-append}
-use lib.Seq.{length-take-le, take-length, take-nil, take-suc, take-take, take-add, getD-at, getD-set-same, getD-set-other, getD-take, getD-drop}
+use lib.ListN.{length, getD, set, take, drop, length-append, length-take, length-drop, List·getD-append}
+use lib.Seq.{take-at, drop-at, length-take-le, take-length, take-nil, take-suc, take-take, take-add}
+use lib.Seq.{getD-at, getD-set-same, getD-set-other, getD-take, getD-drop}
+use Rattle.lists.specs.Lists.{overwrite}
 use Rattle.lists.proofs.Numbers.{lt-or-ge}
+use Rattle.pool_table.proofs.Puts.{back}
 use Rattle.pool_members.specs.Rows.{Rows}
 use Rattle.pool_members.proofs.Only.{flatten-snoc}
 
@@ -24,6 +27,43 @@ part-same l l′ e m n h w =
     sym (part-taken m n l′)
     ∙ ap (drop m) (sym (take-take (m + n) e l′ w) ∙ ap (take (m + n)) h ∙ take-take (m + n) e l w)
     ∙ part-taken m n l
+
+-- a list that is lent from a place on has room for a row
+pub row-lent : (at : ℕ) (row old : List ℕ) → at + length row ≤ length old → length row ≤ length (take (length old - at) (drop at old))
+row-lent at row old fits = simp (length-take, length-drop) (omega arith)
+
+-- and came back with the row at that place
+module _
+    (at : ℕ)
+    (row part old : List ℕ)
+    (fits : at + length row ≤ length old)
+    (written : part ≡ overwrite row (take (length old - at) (drop at old))) where
+  pub row-long : length (back at (length old - at) part old) ≡ length old
+  row-long =
+      let lent = take (length old - at) (drop at old) in
+      let many : length part ≡ length old - at =
+      omega (
+        arith,
+        ap length written,
+        length-append row (drop (length row) lent),
+        length-drop (length row) lent,
+        length-take (length old - at) (drop at old),
+        length-drop at old,
+      ) in
+      simp (length-append, length-take, length-drop) (omega arith)
+
+  pub row-kept : take at (back at (length old - at) part old) ≡ take at old
+  row-kept = take-at (take at old) (part ++ drop (length old - at) (drop at old)) at (length-take-le at old (omega arith))
+
+  pub row-here : take (length row) (drop at (back at (length old - at) part old)) ≡ row
+  row-here =
+      let rest = drop (length old - at) (drop at old) in
+      let tail = drop (length row) (take (length old - at) (drop at old)) in
+      ap (take (length row))
+      (drop-at (take at old) (part ++ rest) at (length-take-le at old (omega arith))
+      ∙ ap (λ (l : List ℕ). l ++ rest) written
+      ∙ append-assoc row tail rest)
+      ∙ take-at row (tail ++ rest) (length row) refl
 
 -- ---- where parts start
 

@@ -1,3 +1,4 @@
 pub mod Members
 pub mod Rows
 pub mod Layout
+pub mod Steps

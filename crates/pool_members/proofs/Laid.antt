@@ -1,0 +1,142 @@
+-- What the steps of laying out give in a well-formed table: the slots of a cluster's ranks are its members by txid, and the places of a
+-- member's parents are the word of its parents. Assumes nothing.
+use mathlib.Core.Path.{_≡_, refl, sym, ap, ap₂, _∙_}
+use mathlib.Core.Bool.{Bool, true, cond, _&&_}
+use mathlib.Core.Logic.{⊎-elim}
+use mathlib.Core.List.{List, map}
+use Prim.Native.Nat.{ℕ, _≤_, _<_, _^_}
+use native.Mathlib.Omega.{arith}
+use lib.Dec.{ltb}
+use lib.ListN.{length, getD, take, drop}
+use lib.Seq.{take-at}
+use borrow.Author.Tests.{lt-ltb, ltb-true}
+use Rattle.lists.specs.Lists.{elem, overwrite}
+use Rattle.lists.proofs.Bools.{clash, and-left, asked, true-together}
+use Rattle.lists.proofs.Numbers.{lt-or-ge}
+use Rattle.lists.proofs.Ranges.{list-below}
+use Rattle.lists.proofs.Lists.{each-at, elem-at}
+use Rattle.txset.specs.declared.TxSet.{TxSet}
+use Rattle.txset.specs.Sets.{mem, isPosition, hasIn, positions}
+use Rattle.txset.proofs.Theorems.{set-ext}
+use Rattle.slotsets.specs.SlotSets.{capacity}
+use Rattle.slotsets.proofs.SlotSets.{none-has}
+use Rattle.pool_table.specs.declared.Side.the-variants.{Parents}
+use Rattle.pool_table.specs.Pool.{Slot, slotAt, slotCount, occupied, entries}
+use Rattle.pool_table.specs.Words.{isLegal, poolOf}
+use Rattle.pool_table.specs.Links.{isParent, inCluster}
+use Rattle.pool_table.specs.WellFormed.{wellFormed}
+use Rattle.pool_table.proofs.Legal.{few-slots}
+use Rattle.pool_table.proofs.Rows.{slot-past}
+use Rattle.pool_links.proofs.Mutual.{parent-parts, is-parent, occupied-in, named-in}
+use Rattle.pool_rules.proofs.Sound.{Sound, well-legal, well-sound}
+use Rattle.pool_order.specs.Order.{slotsByTxid, hasPlaces, slotsWritten, orderAfter}
+use Rattle.pool_order.proofs.Slots.{sorted-many, sorted-below, count-within, places-enough}
+use Rattle.pool_clusters.proofs.Theorems.{cluster-occupied}
+use Rattle.pool_members.specs.Members.{membersOf, parentsOf}
+use Rattle.pool_members.specs.Steps.{Ranked, isRank, chosenOf, Closed}
+use Rattle.pool_members.proofs.Only.{only-places}
+use Rattle.pool_members.proofs.Members.{slots-are, parent-has, parents-fit}
+use Rattle.pool_members.proofs.Ranks.{ranks-are}
+
+module _ (t : List ℕ) (well : wellFormed t ≡ true) where
+  pub few : slotCount (poolOf t) ≤ capacity
+  few = few-slots t (well-legal t well)
+
+  pub sound : Sound (poolOf t)
+  sound = well-sound t well
+
+  -- ---- members
+
+  pub slots-few : length (slotsByTxid (poolOf t)) ≤ capacity
+  slots-few = count-within t (well-legal t well) (sorted-many (poolOf t))
+
+  pub slots-below : (k : ℕ) → k < length (slotsByTxid (poolOf t)) → getD (slotsByTxid (poolOf t)) k 0 < capacity
+  slots-below k l = each-at (λ s. s < capacity) (slotsByTxid (poolOf t)) 0 (sorted-below (poolOf t) few) k l
+
+  -- the order that was written
+  module _ (n : ℕ) (old new : List ℕ) (room : length old ≡ capacity) (many : n ≡ slotsWritten t (length old)) (written : new ≡ orderAfter t old) where
+    enough : hasPlaces t (length old) ≡ true
+    enough = places-enough t (length old) (well-legal t well) (omega (arith, count-within t (well-legal t well) refl))
+
+    pub order-many : n ≡ length (slotsByTxid (poolOf t))
+    order-many = many ∙ ap (λ (b : Bool). cond b (entries (poolOf t)) 0) enough ∙ sym (sorted-many (poolOf t))
+
+    pub order-is : take n new ≡ slotsByTxid (poolOf t)
+    order-is =
+        let xs = slotsByTxid (poolOf t) in
+        ap (take n) (written ∙ ap (λ (b : Bool). cond b (overwrite xs old) old) enough) ∙ take-at xs (drop (length xs) old) n (sym order-many)
+
+  module _
+      (s : ℕ)
+      (taken : occupied (poolOf t) s ≡ true)
+      (set : List ℕ)
+      (found : (i : ℕ) → hasIn set i ≡ (isLegal (length t) && (ltb s (slotCount (poolOf t)) && inCluster (poolOf t) s i))) where
+    -- what was found is the cluster, whose members a set can hold
+    found-is : (i : ℕ) → hasIn set i ≡ inCluster (poolOf t) s i
+    found-is i =
+        found i
+        ∙ ap₂ (λ (b c : Bool). b && (c && inCluster (poolOf t) s i)) (well-legal t well)
+        (lt-ltb s (slotCount (poolOf t)) (occupied-in (poolOf t) s taken))
+
+    found-taken : (i : ℕ) → inCluster (poolOf t) s i ≡ true → occupied (poolOf t) i ≡ true
+    found-taken i e = cluster-occupied (poolOf t) few (sound .links) s i taken e
+
+    pub found-all : (i : ℕ) → (ltb i capacity && hasIn set i) ≡ inCluster (poolOf t) s i
+    found-all i =
+        ap (λ (b : Bool). ltb i capacity && b) (found-is i)
+        ∙ asked (ltb i capacity) (inCluster (poolOf t) s i) (λ e. lt-ltb i capacity (omega (arith, occupied-in (poolOf t) i (found-taken i e), few)))
+
+    module _
+        (ranks among : List ℕ)
+        (ranked : Ranked (slotsByTxid (poolOf t)) ranks)
+        (told : (r : ℕ) → hasIn among r ≡ (ltb r capacity && isRank ranks (hasIn set) r)) where
+      among-is : (r : ℕ) → hasIn among r ≡ (ltb r (length (slotsByTxid (poolOf t))) && inCluster (poolOf t) s (getD (slotsByTxid (poolOf t)) r 0))
+      among-is r =
+          let p = poolOf t in
+          let xs = slotsByTxid p in
+          told r
+          ∙ ap (λ (b : Bool). ltb r capacity && b)
+          (ranks-are xs ranks (hasIn set) ranked slots-below (λ i e. slots-are p i ∙ found-taken i (sym (found-is i) ∙ e)) r
+          ∙ ap (λ (b : Bool). ltb r (length xs) && b) (found-is (getD xs r 0)))
+          ∙ asked (ltb r capacity) (ltb r (length xs) && inCluster p s (getD xs r 0))
+          (λ e. lt-ltb r capacity (omega (arith, slots-few, ltb-true r (length xs) (and-left (ltb r (length xs)) _ e))))
+
+      pub among-below : (r : ℕ) → hasIn among r ≡ true → r < length (slotsByTxid (poolOf t))
+      among-below r e = ltb-true r (length (slotsByTxid (poolOf t))) (and-left (ltb r (length (slotsByTxid (poolOf t)))) _ (sym (among-is r) ∙ e))
+
+      pub chosen-members : chosenOf (slotsByTxid (poolOf t)) among ≡ membersOf (poolOf t) s
+      unfolding chosenOf membersOf
+      chosen-members =
+          let p = poolOf t in
+          let xs = slotsByTxid p in
+          ap (map (λ r. getD xs r 0)) (list-below (hasIn among) (λ r. inCluster p s (getD xs r 0)) (length xs) capacity slots-few among-is)
+          ∙ only-places (inCluster p s) xs
+
+  -- ---- parents
+
+  parent-is : (s a : ℕ) → hasIn (slotAt (poolOf t) s .parents) a ≡ isParent (poolOf t) s a
+  parent-is s a =
+      let p = poolOf t in
+      true-together (hasIn (slotAt p s .parents) a) (isParent p s a)
+      (λ e.
+      let l : s < slotCount p =
+      ⊎-elim (λ l. l) (λ l. clash e (ap (λ (x : Slot). hasIn (x .parents) a) (slot-past p s l) ∙ none-has a)) (lt-or-ge s (slotCount p)) in
+      is-parent p s a l (named-in t (sound .links) Parents s a l e) e)
+      (λ e. parent-parts p s a e .2)
+
+  pub parents-word : (ms places : List ℕ) (s w : ℕ) → Closed (poolOf t) ms → Ranked ms places → elem s ms ≡ true → w < 2 ^ positions
+      → ((i : ℕ) → mem (record { word = w }) i ≡ (isPosition i && isRank places (hasIn (slotAt (poolOf t) s .parents)) i))
+      → w ≡ parentsOf (poolOf t) ms s
+  parents-word ms places s w closed ranked m fits told =
+      let p = poolOf t in
+      ap (λ (x : TxSet). x .word)
+      (set-ext (record { word = w }) (record { word = parentsOf p ms s }) fits (parents-fit p ms s)
+      (λ i.
+      told i
+      ∙ ap (λ (b : Bool). isPosition i && b)
+      (ranks-are ms places (hasIn (slotAt p s .parents)) ranked (λ k l. closed .below (getD ms k 0) (elem-at ms k l))
+      (λ a e. closed .parents s a m (sym (parent-is s a) ∙ e)) i
+      ∙ ap (λ (b : Bool). ltb i (length ms) && b) (parent-is s (getD ms i 0)))
+      ∙ asked (isPosition i) (ltb i (length ms) && isParent p s (getD ms i 0))
+      (λ e. lt-ltb i positions (omega (arith, closed .few, ltb-true i (length ms) (and-left (ltb i (length ms)) _ e))))
+      ∙ sym (parent-has p ms (closed .few) s i)))
