@@ -12,8 +12,8 @@ use std::collections::{BTreeMap, BTreeSet};
 const OUTPUTS: usize = 128;
 
 pub struct OriginalPool {
-    graph: TxGraph,
-    bodies: BTreeMap<Txid, Transaction>,
+    pub graph: TxGraph,
+    pub bodies: BTreeMap<Txid, Transaction>,
 }
 
 impl OriginalPool {
@@ -183,4 +183,121 @@ fn bytes(txids: &BTreeSet<bitcoin::Txid>) -> BTreeSet<Txid> {
 fn listed(new: &Newcomer) -> impl Iterator<Item = bitcoin::Txid> + '_ {
     let parents = new.parents.chunks_exact(32);
     parents.map(|bytes| bitcoin::Txid(bytes.try_into().expect("32 bytes")))
+}
+
+/// The Rust's side of the rows of docs/DIFFERENCES.md on module 8.
+#[cfg(test)]
+mod tests {
+    use super::*;
+    use crate::pool::MOST_FEE;
+    use crate::pool_replay::txid;
+
+    const LIMITS: Limits = Limits {
+        count: 64,
+        size: 101_000,
+        bytes_per_sigop: 20,
+    };
+
+    fn newcomer(id: u64, fee: u64, weight: u64, parents: &[u64]) -> Newcomer {
+        Newcomer {
+            txid: txid(id),
+            fee,
+            weight,
+            cost: 0,
+            parents: parents.iter().flat_map(|id| txid(*id)).collect(),
+        }
+    }
+
+    fn entry(original: &OriginalPool, id: u64) -> &TxEntry {
+        original.get(&txid(id)).expect("it is there")
+    }
+
+    #[test]
+    fn a_parent_after_its_child_is_linked() {
+        let mut original = OriginalPool::new(LIMITS);
+        original.add(&newcomer(1, 0, 4, &[0]), 0);
+        original.add(&newcomer(0, 0, 4, &[]), 1);
+        assert_eq!(bytes(&entry(&original, 1).parents), [txid(0)].into());
+        assert_eq!(bytes(&entry(&original, 0).children), [txid(1)].into());
+    }
+
+    #[test]
+    fn a_link_needs_the_output() {
+        let mut original = OriginalPool::new(LIMITS);
+        original.insert(&newcomer(0, 0, 4, &[]), 0, 1);
+        // each spends an output of its own, of which there is only the first
+        for id in 1..=6 {
+            original.insert(&newcomer(id, 0, 4, &[0]), 0, 1);
+            assert_eq!(entry(&original, id).parents.is_empty(), id > 1);
+        }
+        assert_eq!(bytes(&entry(&original, 0).children), [txid(1)].into());
+    }
+
+    #[test]
+    fn a_second_insert_overwrites_and_counts_again() {
+        let mut original = OriginalPool::new(LIMITS);
+        original.add(&newcomer(0, 1, 4, &[]), 0);
+        original.add(&newcomer(0, 2, 8, &[]), 1);
+        assert_eq!(original.totals(), [1, 12]);
+        assert_eq!(entry(&original, 0).fee_sat, 2);
+    }
+
+    #[test]
+    fn insert_has_no_limits() {
+        let mut original = OriginalPool::new(LIMITS);
+        original.add(&newcomer(0, MOST_FEE + 1, 0, &[]), 0);
+        for id in 1..65 {
+            original.add(&newcomer(id, 0, 4_000_001, &[id - 1]), 0);
+        }
+        assert_eq!(original.refusal(&newcomer(65, 0, 4, &[64])), Some(8));
+        let cluster = original.graph.cluster_of(&bitcoin::Txid(txid(0)));
+        assert_eq!(cluster.expect("it is there").members.len(), 65);
+    }
+
+    #[test]
+    fn sizes_are_rounded_up_once() {
+        let mut original = OriginalPool::new(Limits { size: 1, ..LIMITS });
+        original.add(&newcomer(0, 0, 1, &[]), 0);
+        assert_eq!(original.refusal(&newcomer(1, 0, 3, &[0])), None);
+        assert_eq!(original.refusal(&newcomer(1, 0, 4, &[0])), Some(9));
+    }
+
+    #[test]
+    fn limits_of_any_size() {
+        let mut original = OriginalPool::new(LIMITS);
+        original.graph.set_cluster_limits(Some(65), Some(0));
+        assert_eq!(original.graph.cluster_count_limit(), 65);
+        assert_eq!(original.graph.cluster_vsize_limit(), 1);
+    }
+
+    #[test]
+    fn absent_txids() {
+        let mut original = OriginalPool::new(LIMITS);
+        let absent = bitcoin::Txid(txid(0));
+        let body = Transaction {
+            input: Vec::new(),
+            output: Vec::new(),
+        };
+        assert!(original.graph.remove(&absent, &body).is_none());
+        original.graph.set_sigop_cost(&absent, 1);
+        assert_eq!(original.totals(), [0, 0]);
+    }
+
+    #[test]
+    fn more_entries_than_slots() {
+        let mut original = OriginalPool::new(LIMITS);
+        for id in 0..1_025 {
+            original.add(&newcomer(id, 0, 4, &[]), 0);
+        }
+        assert_eq!(original.totals(), [1_025, 4_100]);
+    }
+
+    #[test]
+    fn nothing_checks_the_total() {
+        let mut original = OriginalPool::new(LIMITS);
+        original.add(&newcomer(0, 0, 4, &[]), 0);
+        original.graph.total_weight += 1;
+        original.remove(&txid(0));
+        assert_eq!(original.totals(), [0, 1]);
+    }
 }
