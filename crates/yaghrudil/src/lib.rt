@@ -1,4 +1,6 @@
-// The three cluster calls for programs in C or Rust: a slice is a pointer and a count, and a reply a struct of two words.
+// The cluster calls and the pool's calls for programs in C or Rust: a slice is a pointer and a count, and an answer a number or a struct of
+// words.
 mod chunks;
 mod order;
+mod pool;
 mod post;
