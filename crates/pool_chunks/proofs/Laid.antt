@@ -39,13 +39,17 @@ pub record Taken (p : Pool) (ds : List ℤ) : Type 0 where
   pub long : length ds ≡ slotCount p
   pub fine : badDelta p ds ≡ false
 
+pub stands : (t : List ℕ) (ds : List ℤ) → answerOf (deltaRefusals t ds) ≡ 0 → wellFormed t ≡ true
+unfolding deltaRefusals answerOf
+stands t ds e = not-false (wellFormed t) (cond-second (not (wellFormed t)) e (λ z. omega arith) .0)
+
 pub taken : (t : List ℕ) (ds : List ℤ) → answerOf (deltaRefusals t ds) ≡ 0 → Taken (poolOf t) ds
 unfolding deltaRefusals answerOf
 taken t ds e =
     let a = cond-second (not (wellFormed t)) e (λ z. omega arith) in
     let b = cond-second (differ (length ds) (slotCount (poolOf t))) (a .1) (λ z. omega arith) in
     let c = cond-second (badDelta (poolOf t) ds) (b .1) (λ z. omega arith) in
-    let well : wellFormed t ≡ true = not-false (wellFormed t) (a .0) in
+    let well = stands t ds e in
     record {
       few = few-slots t (well-legal t well);
       sound = well-sound t well;

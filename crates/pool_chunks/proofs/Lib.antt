@@ -10,3 +10,4 @@ pub mod Laid
 pub mod Numbers
 pub mod Order
 pub mod Tried
+pub mod Whole

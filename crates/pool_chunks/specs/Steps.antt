@@ -85,5 +85,6 @@ sizesIn p ds ms = map (λ is. total (feesOf p ds ms) (sizesOf p ms) is .size) (p
 -- the chunks of all clusters stand in four rooms, one after the other
 pub record AllCut (p : Pool) (ds : List ℤ) (count : ℕ) (listed starts : List ℕ) (fees : List ℤ) (sizes : List ℕ) : Type 0 where
   pub many : count ≡ length (allChunks p ds)
+  pub few : count ≤ capacity
   pub rows : Rows listed starts (slotLists (allChunks p ds))
   pub rates : (c : ℕ) → c < count → rateAt fees sizes c ≡ chunkAt (allChunks p ds) c .rate

@@ -221,4 +221,4 @@ cut-all-spec =
     (λ c. starts-kept (c .before))
     (λ c. let a = c .before in fees-long a ∙ sym (startOf a .pre .1 .1 .1 .0))
     (λ c. let a = c .before in sizes-long a ∙ sym (startOf a .pre .1 .1 .1 .1))
-    (λ c. let a = c .before in cutting-done (a .loop .inv) (omega (arith, c .loop-test .left, out (startOf a) .count))))
+    (λ c. let a = c .before in cutting-done (a .loop .inv) (omega (arith, c .loop-test .left, out (startOf a) .count)) (count-fits a)))
