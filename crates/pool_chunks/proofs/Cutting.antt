@@ -19,12 +19,12 @@ use Rattle.pool_table.specs.Pool.{Pool}
 use Rattle.depgraph.specs.Graph.{isCyclic}
 use Rattle.pool_members.specs.Members.{parentsOf, clusters}
 use Rattle.pool_members.specs.Rows.{Rows}
-use Rattle.pool_members.proofs.Only.{getD-map}
+use Rattle.pool_members.proofs.Only.{getD-map, flatten-append}
 use Rattle.pool_chunks.specs.Chunks.{PoolChunk, orderOf, partsOf, numbered, chunksOver, allChunks}
 use Rattle.pool_chunks.specs.Sorted.{slotLists, noChunk, chunkAt}
 use Rattle.pool_chunks.specs.Steps.{endsFrom, lastEnd, slotsIn, endsIn, feesIn, sizesIn, AllCut}
 use Rattle.pool_chunks.proofs.Clusters.{order-long, parts-few, parts-slots}
-use Rattle.pool_chunks.proofs.Pieces.{chunks-snoc, flatten-append, numbered-slots, numbered-fees, numbered-sizes, numbered-length}
+use Rattle.pool_chunks.proofs.Pieces.{chunks-snoc, numbered-slots, numbered-fees, numbered-sizes, numbered-length}
 use Rattle.pool_chunks.proofs.Writing.{ends-length, ends-at, last-sum, written-on}
 
 -- ---- parts one behind the other, and where they end, are rows

@@ -30,11 +30,6 @@ at-each P (x ∷ xs) d h = (h 0 (omega arith), at-each P xs d (λ i l. h (suc i)
 
 -- ---- lists of lists
 
-pub flatten-append : (xss yss : List (List ℕ)) → flatten (xss ++ yss) ≡ flatten xss ++ flatten yss
-unfolding flatten
-flatten-append [] yss = refl
-flatten-append (xs ∷ xss) yss = ap (λ (l : List ℕ). xs ++ l) (flatten-append xss yss) ∙ sym (append-assoc xs (flatten xss) (flatten yss))
-
 pub flatten-map : (f : ℕ → ℕ) (xss : List (List ℕ)) → flatten (map (map f) xss) ≡ map f (flatten xss)
 unfolding flatten
 flatten-map f [] = refl

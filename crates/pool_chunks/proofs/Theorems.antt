@@ -21,11 +21,11 @@ use Rattle.weights.specs.Weights.{adjusted}
 use Rattle.pool_table.specs.Pool.{Pool, slotCount, slotAt, isOccupied, occupied}
 use Rattle.pool_rules.proofs.Sound.{Sound}
 use Rattle.pool_members.specs.Members.{clusters}
-use Rattle.pool_members.proofs.Only.{getD-map, distinct-append}
+use Rattle.pool_members.proofs.Only.{getD-map, distinct-append, flatten-append}
 use Rattle.pool_members.proofs.Members.{Cluster, clusters-each, clusters-elem, clusters-once}
 use Rattle.pool_chunks.specs.Chunks.{PoolChunk, feesOf, sizeOf, sizesOf, partsOf, chunkOf, numbered, chunksOver, allChunks, triedFirst, tried}
 use Rattle.pool_chunks.specs.Sorted.{slotLists}
-use Rattle.pool_chunks.proofs.Pieces.{in-map, distinct-behind, flatten-append, each-numbered, at-each}
+use Rattle.pool_chunks.proofs.Pieces.{in-map, distinct-behind, each-numbered, at-each}
 use Rattle.pool_chunks.proofs.Clusters.{cluster-taken, cluster-acyclic, part-some, part-below, cluster-elem, cluster-once}
 
 -- ---- each chunk
