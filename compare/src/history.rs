@@ -229,7 +229,7 @@ impl Known {
     }
 
     /// Any txid, of which most are in the pool.
-    fn any(&self, rng: &mut Rng) -> Txid {
+    pub fn any(&self, rng: &mut Rng) -> Txid {
         if self.live.is_empty() || rng.one_in(12) {
             return self.gone.unwrap_or(random_txid(rng));
         }

@@ -8,6 +8,7 @@ mod exhaustive;
 mod expected;
 mod generate;
 mod history;
+mod library;
 mod measure;
 mod model;
 mod original;
@@ -20,6 +21,7 @@ mod rng;
 mod run;
 mod sketch;
 mod smallest;
+mod tables;
 mod template;
 mod template_replay;
 mod templates;
@@ -29,6 +31,7 @@ mod wrong;
 
 // graph.rs looks for it at the root, where it stands in its own crate
 use original::linearize;
+use ours::{Library, Reading};
 use std::path::Path;
 use std::process::ExitCode;
 
@@ -39,7 +42,10 @@ compare worst [--seconds S]             search for the clusters with the smalles
 compare wrong [--tries N]               search for the smallest cluster that tells each wrong program from the right one
 compare replay DIR                      write cases and answers, as stdin and stdout, to a folder
 compare texts DIR                       write the table of crates/run_cluster_texts to a folder
-compare templates [S] [--templates N]   compare templates, and the pools below them, with the original's, from a seed
+compare templates [S] [--templates N] [--reading]
+                                        compare templates, and the pools below them, with the original's, from a seed:
+                                        the library's, held against the second reading too, or that reading's alone
+compare tables [--seed S] [--tables N]  compare calls on damaged tables with the second reading
 compare smallest                        search for the smallest pools whose templates differ from the original's
 compare pool DIR                        write calls on pools and their answers, as stdin and stdout, to a folder
 compare template DIR                    the same of templates";
@@ -84,6 +90,13 @@ fn perform(words: &[&str]) -> Result<(), String> {
             compare_templates(seed, options)
         }
         ["templates", options @ ..] => compare_templates(templates::SEED, options),
+        ["tables", options @ ..] => {
+            let [seed, count] = numbers(
+                options,
+                [("--seed", tables::SEED), ("--tables", tables::TABLES)],
+            )?;
+            tables::run(seed, count)
+        }
         ["smallest"] => {
             smallest::search();
             Ok(())
@@ -100,8 +113,13 @@ fn perform(words: &[&str]) -> Result<(), String> {
 }
 
 fn compare_templates(seed: u64, options: &[&str]) -> Result<(), String> {
-    let [count] = numbers(options, [("--templates", templates::TEMPLATES)])?;
-    templates::run(seed, count)
+    let (flags, options): (Vec<&str>, Vec<&str>) =
+        options.iter().partition(|word| **word == "--reading");
+    let [count] = numbers(&options, [("--templates", templates::TEMPLATES)])?;
+    match flags.is_empty() {
+        true => templates::run::<Library>(seed, count),
+        false => templates::run::<Reading>(seed, count),
+    }
 }
 
 /// The values of options that take a number, each with what it is by default.

@@ -1,20 +1,24 @@
-//! What is held against the original's pool: for now the second reading of modules 8 and 9. The linked library takes
-//! its place once it has these calls, with a table of its own and the pool that `Pool::read` finds there.
+//! What is held against the original's pool: the linked library, with the second reading of modules 8 and 9 beside it,
+//! or that reading alone.
 
-use crate::pool::{Answer, Call, Limits, Pool};
+use crate::library;
+use crate::pool::{words, Answer, Call, Limits, Pool};
 use crate::template::{select, Asked};
-use std::borrow::Cow;
 
+/// The answer's number, and the selected slots.
+pub type Selected = (u64, Vec<usize>);
+
+/// An error tells where the library differs from the second reading.
 pub trait Ours: Sized {
     /// A pool with so many slots and these limits, all of them in their ranges.
     fn made(slots: usize, limits: Limits) -> Self;
 
-    fn call(&mut self, call: &Call) -> Answer;
+    fn call(&mut self, call: &Call) -> Result<Answer, String>;
 
-    /// The selected slots, with room for so many, or the number of the refusal.
-    fn template(&self, asked: &Asked, room: usize) -> Result<Vec<usize>, u64>;
+    /// With room for so many slots.
+    fn template(&self, asked: &Asked, room: usize) -> Result<Selected, String>;
 
-    fn pool(&self) -> Cow<'_, Pool>;
+    fn pool(&self) -> &Pool;
 }
 
 /// The second reading, without a table: reading and writing one at each call would cost most of the time.
@@ -25,18 +29,70 @@ impl Ours for Reading {
         Reading(Pool::new(slots, limits).expect("numbers in their ranges"))
     }
 
-    fn call(&mut self, call: &Call) -> Answer {
-        match self.0.perform(call) {
-            Ok(values) => (0, values),
-            Err(number) => (number, [0, 0]),
+    fn call(&mut self, call: &Call) -> Result<Answer, String> {
+        Ok(self.0.answer(call))
+    }
+
+    fn template(&self, asked: &Asked, room: usize) -> Result<Selected, String> {
+        Ok(match select(&self.0, asked, room) {
+            Ok(slots) => (0, slots),
+            Err(number) => (number, Vec::new()),
+        })
+    }
+
+    fn pool(&self) -> &Pool {
+        &self.0
+    }
+}
+
+/// The linked library on a table of its own. After each call every word of the table is the reading's.
+pub struct Library {
+    table: Vec<u64>,
+    reading: Reading,
+    /// The table that the reading comes to.
+    expected: Vec<u64>,
+}
+
+impl Ours for Library {
+    fn made(slots: usize, limits: Limits) -> Self {
+        // what stands there before does not matter
+        let mut table = vec![0x5bad_5bad_5bad_5bad; words(slots)];
+        let answer = library::perform(&mut table, &Call::Make(limits));
+        assert_eq!(answer, (0, [0, 0]), "make with numbers in their ranges");
+        let reading = Reading::made(slots, limits);
+        let mut expected = vec![0; words(slots)];
+        reading.0.write(&mut expected);
+        assert!(table == expected, "the table that make leaves");
+        Library {
+            table,
+            reading,
+            expected,
         }
     }
 
-    fn template(&self, asked: &Asked, room: usize) -> Result<Vec<usize>, u64> {
-        select(&self.0, asked, room)
+    fn call(&mut self, call: &Call) -> Result<Answer, String> {
+        let answer = library::perform(&mut self.table, call);
+        let expected = self.reading.call(call)?;
+        if expected.0 == 0 {
+            self.reading.0.write(&mut self.expected);
+        }
+        if answer != expected {
+            return Err(format!(
+                "the library answers {answer:?}, the second reading {expected:?}, to {call:?}"
+            ));
+        }
+        if self.table != self.expected {
+            return Err(format!("another table in the library after {call:?}"));
+        }
+        Ok(answer)
     }
 
-    fn pool(&self) -> Cow<'_, Pool> {
-        Cow::Borrowed(&self.0)
+    /// The library has no template yet: this one is the reading's.
+    fn template(&self, asked: &Asked, room: usize) -> Result<Selected, String> {
+        self.reading.template(asked, room)
+    }
+
+    fn pool(&self) -> &Pool {
+        self.reading.pool()
     }
 }

@@ -5,16 +5,18 @@ use std::collections::{BTreeMap, BTreeSet};
 
 pub type Txid = [u8; 32];
 
-const HEADER: usize = 4;
-const ROW: usize = 39;
+pub const HEADER: usize = 4;
+pub const ROW: usize = 39;
 const SET: usize = 16;
-const PARENTS: usize = 7;
-const CHILDREN: usize = PARENTS + SET;
+pub const PARENTS: usize = 7;
+pub const CHILDREN: usize = PARENTS + SET;
 const SLOTS: usize = 1024;
 pub const MOST_FEE: u64 = 2_100_000_000_000_000;
 const MOST_WEIGHT: u64 = 4_000_000;
 
+/// Laid out as the library's header has it.
 #[derive(Clone, Copy, Debug, PartialEq, Eq)]
+#[repr(C)]
 pub struct Limits {
     pub count: u64,
     pub size: u64,
@@ -74,13 +76,16 @@ pub fn perform(table: &mut [u64], call: &Call) -> Answer {
     let Some(mut pool) = Pool::read(table) else {
         return (12, [0, 0]);
     };
-    match pool.perform(call) {
-        Ok(values) => {
-            pool.write(table);
-            (0, values)
-        }
-        Err(number) => (number, [0, 0]),
+    let answer = pool.answer(call);
+    if answer.0 == 0 {
+        pool.write(table);
     }
+    answer
+}
+
+/// How many words a table of so many slots has.
+pub fn words(slots: usize) -> usize {
+    HEADER + slots * ROW
 }
 
 fn whole_slots(words: usize) -> Option<usize> {
@@ -286,6 +291,14 @@ impl Pool {
     fn within_limits(&self) -> bool {
         let fits = |cluster| self.exceeds(cluster, 0, 0).is_none();
         self.clusters().iter().all(fits)
+    }
+
+    /// Every call but make.
+    pub fn answer(&mut self, call: &Call) -> Answer {
+        match self.perform(call) {
+            Ok(values) => (0, values),
+            Err(number) => (number, [0, 0]),
+        }
     }
 
     pub fn perform(&mut self, call: &Call) -> Result<[u64; 2], u64> {

@@ -124,7 +124,8 @@ impl Pair {
     fn new(newcomers: [Newcomer; 2], outputs: usize) -> Self {
         let mut ours = Reading::made(2, LIMITS);
         for new in &newcomers {
-            assert_eq!(ours.call(&Call::Add(new.clone())).0, 0);
+            let answer = ours.call(&Call::Add(new.clone()));
+            assert_eq!(answer.map(|(number, _)| number), Ok(0));
         }
         let asked = Asked {
             deltas: vec![0; 2],
@@ -133,9 +134,11 @@ impl Pair {
             reserve: 0,
             minimum: 0,
         };
+        let (number, slots) = ours.template(&asked, 2).expect("as the second reading");
+        assert_eq!(number, 0);
         Pair {
-            slots: ours.template(&asked, 2).expect("nothing to refuse"),
-            pool: ours.pool().into_owned(),
+            slots,
+            pool: ours.pool().clone(),
             newcomers,
             outputs,
             asked,

@@ -5,8 +5,8 @@
 use crate::determined::{broken, Clause};
 use crate::history::{asked, Known, Plan};
 use crate::original_pool::{as_original, OriginalPool};
-use crate::ours::{Ours, Reading};
-use crate::pool::{Call, Newcomer, Pool, Txid};
+use crate::ours::Ours;
+use crate::pool::{Answer, Call, Newcomer, Pool, Txid};
 use crate::rng::Rng;
 use crate::sketch::sketch;
 use crate::template::{chunks, fill, Asked, Chunk, Outcome};
@@ -23,13 +23,13 @@ const SMALL: usize = 32;
 const LARGE: usize = 500;
 
 /// Runs histories until so many templates were compared, and prints what was, or stops with the first difference.
-pub fn run(seed: u64, templates: u64) -> Result<(), String> {
+pub fn run<O: Ours>(seed: u64, templates: u64) -> Result<(), String> {
     println!("seed {seed}");
     let start = Instant::now();
     let mut rng = Rng::new(seed);
     let mut tally = Tally::default();
     while tally.determined.all < templates {
-        history::<Reading>(&mut rng, &mut tally)?;
+        history::<O>(&mut rng, &mut tally)?;
     }
     println!("{tally}");
     println!("no difference, in {:.0} s", start.elapsed().as_secs_f64());
@@ -89,7 +89,7 @@ impl<O: Ours> Sides<O> {
     /// Every call but make and add. Ours refuses a txid exactly where the original does not have it.
     fn other_call(&mut self, call: &Call, tally: &mut Tally) -> Result<(), String> {
         tally.calls += 1;
-        let (number, values) = self.ours.call(call);
+        let (number, values) = self.our_answer(call)?;
         let expected = match call {
             Call::Remove(txid) | Call::SetCost(txid, _) if !self.original.has(txid) => 10,
             _ => 0,
@@ -126,7 +126,7 @@ impl<O: Ours> Sides<O> {
             new.parents.clear();
         }
         tally.calls += 1;
-        let (number, [slot, _]) = self.ours.call(&Call::Add(new.clone()));
+        let (number, [slot, _]) = self.our_answer(&Call::Add(new.clone()))?;
         *tally.adds.entry(number).or_default() += 1;
         if matches!(number, 0 | 8 | 9) && !self.late {
             self.check_admission(&new, number)?;
@@ -139,6 +139,11 @@ impl<O: Ours> Sides<O> {
         Ok(())
     }
 
+    fn our_answer(&mut self, call: &Call) -> Result<Answer, String> {
+        let answer = self.ours.call(call);
+        answer.map_err(|text| self.told(&text, None))
+    }
+
     fn check_admission(&mut self, new: &Newcomer, number: u64) -> Result<(), String> {
         let original = self.original.refusal(new).unwrap_or(0);
         if original == number {
@@ -149,16 +154,16 @@ impl<O: Ours> Sides<O> {
     }
 
     fn told(&self, text: &str, asked: Option<&Asked>) -> String {
-        format!("a difference: {text}\n{}", sketch(&self.ours.pool(), asked))
+        format!("a difference: {text}\n{}", sketch(self.ours.pool(), asked))
     }
 
     /// Whether the links are the same in both, as all else has to be. They are, unless a parent came after its child.
     fn check_entries(&self, tally: &mut Tally) -> Result<bool, String> {
         let pool = self.ours.pool();
-        if let Some(text) = self.original.difference(&pool) {
+        if let Some(text) = self.original.difference(pool) {
             return Err(self.told(&text, None));
         }
-        let same_links = self.original.same_links(&pool);
+        let same_links = self.original.same_links(pool);
         if !same_links && !self.late {
             return Err(self.told("other links in the original", None));
         }
@@ -170,25 +175,28 @@ impl<O: Ours> Sides<O> {
     fn any_template(&self, rng: &mut Rng, tally: &mut Tally) -> Result<(), String> {
         let same_links = self.check_entries(tally)?;
         let pool = self.ours.pool();
-        let asked = asked(&pool, rng);
-        let chunks = chunks(&pool, &asked);
+        let asked = asked(pool, rng);
+        let chunks = chunks(pool, &asked);
         if same_links {
-            self.check_chunks(&pool, &asked, &chunks, tally)?;
+            self.check_chunks(pool, &asked, &chunks, tally)?;
         }
         let told = |text: &str| self.told(text, Some(&asked));
         let room = pool.entries.len() + rng.index(3);
         let ours = self.ours.template(&asked, room);
-        let ours = ours.map_err(|number| told(&format!("refused with {number}")))?;
-        let original = self.original_slots(&pool, &asked);
+        let (number, ours) = ours.map_err(|text| told(&text))?;
+        if number != 0 {
+            return Err(told(&format!("refused with {number}")));
+        }
+        let original = self.original_slots(pool, &asked);
         let original = original.map_err(|text| told(&text))?;
-        let broken = broken(&pool, &chunks, same_links);
+        let broken = broken(pool, &chunks, same_links);
         if broken.is_empty() && ours != original {
             return Err(told(&format!("ours {ours:?}, the original {original:?}")));
         }
         let templates = tally.templates(broken);
         templates.different += u64::from(ours != original);
         templates.not_empty += u64::from(!ours.is_empty());
-        templates.count(&pool, &asked, &chunks);
+        templates.count(pool, &asked, &chunks);
         Ok(())
     }
 
