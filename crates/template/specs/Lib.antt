@@ -1,0 +1,2 @@
+pub mod Selecting
+pub mod Trying
