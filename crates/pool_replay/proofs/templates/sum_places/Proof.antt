@@ -1,25 +1,21 @@
 use Prim.Native.Nat.{_-_}
-use mathlib.Core.Path.{_≡_}
 use lib.ListN.{length}
 use borrow.Author.Needs.{needs}
-use Rattle.run_pool_replay.proofs.listed.Statement.{statement}
-use Rattle.run_pool_replay.proofs.listed.Tie as tie
+use Rattle.pool_replay.proofs.templates.sum_places.Statement.{statement}
+use Rattle.pool_replay.proofs.templates.sum_places.Tie as tie
 
 abbrev Inv-loop : tie.InvT-loop
-Inv-loop bytes₀ numbers k₀ bytes k = length bytes ≡ 352
+Inv-loop room sum₀ i₀ sum i = Unit {0}
 
 abbrev μ-loop : tie.MeasureT-loop
-μ-loop bytes₀ numbers k₀ bytes k = 10 - k
+μ-loop room sum₀ i₀ sum i = length room - i
 
-pub listed-spec : {M : Type 1} → statement M
-listed-spec =
+pub sum-places-spec : {M : Type 1} → statement M
+sum-places-spec =
     tie.close
     (tie.spec
     Inv-loop
     μ-loop
-    (λ c. search needs)
-    (λ c. search needs)
-    (λ c. search needs)
     (λ c. search needs)
     (λ c. search needs)
     (λ c. search needs)

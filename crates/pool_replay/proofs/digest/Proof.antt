@@ -1,8 +1,8 @@
 use Prim.Native.Nat.{_-_}
 use lib.ListN.{length}
 use borrow.Author.Needs.{needs}
-use Rattle.run_pool_replay.proofs.digest.Statement.{statement}
-use Rattle.run_pool_replay.proofs.digest.Tie as tie
+use Rattle.pool_replay.proofs.digest.Statement.{statement}
+use Rattle.pool_replay.proofs.digest.Tie as tie
 
 abbrev Inv-loop : tie.InvT-loop
 Inv-loop table sum₀ i₀ sum i = Unit {0}
@@ -20,11 +20,6 @@ digest-spec =
     (λ c. search needs)
     (λ c. search needs)
     (λ c κs. search needs)
-    (λ c. search needs)
-    (λ c κs. search needs)
-    (λ c. search needs)
-    (λ c κs. search needs)
-    (λ c. search needs)
     (λ c. search needs)
     (λ c. search needs)
     (λ c. search needs)

@@ -2,31 +2,28 @@ use Prim.Native.Nat.{_-_}
 use mathlib.Core.Path.{_≡_}
 use lib.ListN.{length}
 use borrow.Author.Needs.{needs}
-use Rattle.run_pool_replay.proofs.numbers_of.Statement.{statement}
-use Rattle.run_pool_replay.proofs.numbers_of.Tie as tie
+use Rattle.pool_replay.proofs.listed.Statement.{statement}
+use Rattle.pool_replay.proofs.listed.Tie as tie
 
 abbrev Inv-loop : tie.InvT-loop
-Inv-loop text numbers₀ count₀ at₀ numbers count at = length numbers ≡ 16
+Inv-loop bytes₀ numbers k₀ bytes k = length bytes ≡ 352
 
 abbrev μ-loop : tie.MeasureT-loop
-μ-loop text numbers₀ count₀ at₀ numbers count at = length text - at
+μ-loop bytes₀ numbers k₀ bytes k = 10 - k
 
-pub numbers-of-spec : {M : Type 1} → statement M
-numbers-of-spec =
+pub listed-spec : {M : Type 1} → statement M
+listed-spec =
     tie.close
     (tie.spec
     Inv-loop
     μ-loop
     (λ c. search needs)
     (λ c. search needs)
+    (λ c. search needs)
+    (λ c. search needs)
+    (λ c. search needs)
+    (λ c. search needs)
     (λ c κs. search needs)
-    (λ c. search needs)
-    (λ c. search needs)
-    (λ c. search needs)
-    (λ c κs. search needs)
-    (λ c. search needs)
-    (λ c. search needs)
-    (λ c. search needs)
     (λ c. search needs)
     (λ c. search needs)
     (λ c. search needs)

@@ -1,31 +1,31 @@
 use Prim.Native.Nat.{_-_}
-use mathlib.Core.Path.{_≡_}
-use lib.ListN.{length}
 use borrow.Author.Needs.{needs}
-use Rattle.run_pool_replay.proofs.replay.Statement.{statement}
-use Rattle.run_pool_replay.proofs.replay.Tie as tie
+use Rattle.pool_replay.proofs.templates.show_places.Statement.{statement}
+use Rattle.pool_replay.proofs.templates.show_places.Tie as tie
 
 abbrev Inv-loop : tie.InvT-loop
-Inv-loop input table₀ lent₀ from₀ table lent from = length table ≡ length table₀
+Inv-loop room written n i₀ t5 t6 t7 i = Unit {0}
 
 abbrev μ-loop : tie.MeasureT-loop
-μ-loop input table₀ lent₀ from₀ table lent from = length input - from
+μ-loop room written n i₀ t5 t6 t7 i = n - i
 
-pub replay-spec : {M : Type 1} → statement M
-replay-spec =
+pub show-places-spec : {M : Type 1} → statement M
+show-places-spec =
     tie.close
     (tie.spec
     Inv-loop
     μ-loop
+    (λ c κs. search needs)
+    (λ c. search needs)
     (λ c. search needs)
     (λ c κs. search needs)
     (λ c. search needs)
     (λ c. search needs)
     (λ c. search needs)
     (λ c κs. search needs)
+    (λ c. search needs)
+    (λ c. search needs)
+    (λ c. search needs)
+    (λ c. search needs)
     (λ c κs. search needs)
-    (λ c. search needs)
-    (λ c. search needs)
-    (λ c. search needs)
-    (λ c. search needs)
     (λ c. search needs))

@@ -1,13 +1,18 @@
 use mathlib.Core.Path.{sym}
 use lib.Seq.{length-take-le}
 use borrow.Author.Needs.{needs}
-use Rattle.run_pool_replay.proofs.perform.Statement.{statement}
-use Rattle.run_pool_replay.proofs.perform.Tie as tie
+use Rattle.pool_replay.proofs.perform.Statement.{statement}
+use Rattle.pool_replay.proofs.perform.Tie as tie
 
 pub perform-spec : {M : Type 1} → statement M
 perform-spec =
     tie.close
     (tie.spec
+    (λ c. search needs)
+    (λ c κs. search needs)
+    (λ c. search needs)
+    (λ c. search needs)
+    (λ c. search needs)
     (λ c. search needs)
     (λ c. search needs)
     (λ c κs. search needs)

@@ -2,8 +2,8 @@ use Prim.Native.Nat.{_≤_}
 use mathlib.Core.Path.{_≡_}
 use lib.ListN.{length, length-set}
 use borrow.Author.Needs.{needs}
-use Rattle.run_pool_replay.proofs.write_txid.Statement.{statement}
-use Rattle.run_pool_replay.proofs.write_txid.Tie as tie
+use Rattle.pool_replay.proofs.write_txid.Statement.{statement}
+use Rattle.pool_replay.proofs.write_txid.Tie as tie
 
 abbrev Inv-loop : tie.InvT-loop
 Inv-loop id at bytes₀ rest₀ i₀ bytes rest i = (i ≤ 8) × (length bytes ≡ length bytes₀)

@@ -1,8 +1,8 @@
 use Prim.Native.Nat.{_-_}
 use lib.ListN.{length}
 use borrow.Author.Needs.{needs}
-use Rattle.run_pool_replay.proofs.decimal.Statement.{statement}
-use Rattle.run_pool_replay.proofs.decimal.Tie as tie
+use Rattle.pool_replay.proofs.decimal.Statement.{statement}
+use Rattle.pool_replay.proofs.decimal.Tie as tie
 
 abbrev Inv-loop : tie.InvT-loop
 Inv-loop digits value₀ i₀ value i = Unit {0}
