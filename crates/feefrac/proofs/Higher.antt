@@ -73,10 +73,3 @@ module _ (a b c : FeeFrac) where
       is-not-above c a
       (le-of-mul-le-mul-left
       (omega (arith, balance, mul-le-mul-right (c .size) (not-above b a e), mul-le-mul-right (a .size) (not-above c b f))) h)
-
-  pub above-above : higher a b ≡ true → higher b c ≡ true → 0 < a .size + c .size → higher a c ≡ true
-  above-above e f h = go (c .size) refl
-    where
-      go : (n : ℕ) → c .size ≡ n → higher a c ≡ true
-      go zero k = least-above (higher-one a b e) f (omega arith)
-      go (suc n) k = above-least e (higher-one b c f) (omega arith)

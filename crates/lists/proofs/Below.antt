@@ -350,18 +350,3 @@ elem-below f n j e =
     (λ l. (l, sym (elem-in f n 0 j (omega arith) (omega arith)) ∙ e))
     (λ l. clash e (elem-out f n 0 j (λ a b. omega arith)))
     (lt-or-ge j n)
-
--- each element is n or more, and more than the one before it
-abbrev pub ascending : ℕ → List ℕ → Bool
-ascending n [] = true
-ascending n (x ∷ xs) = leb n x && ascending (suc x) xs
-
-ascending-keep : (b : Bool) (n i : ℕ) (l : List ℕ) → n ≤ i → ascending (suc i) l ≡ true → ascending n l ≡ true → ascending n (keepIf b i l) ≡ true
-ascending-keep true n i l h p q = ap₂ _&&_ (le-leb n i h) p
-ascending-keep false n i l h p q = q
-
-pub list-ascending : (f : ℕ → Bool) (k i n : ℕ) → n ≤ i → ascending n (listFrom f k i) ≡ true
-unfolding listFrom
-list-ascending f zero i n h = refl
-list-ascending f (suc k) i n h =
-    ascending-keep (f i) n i (listFrom f k (suc i)) h (list-ascending f k (suc i) (suc i) (omega arith)) (list-ascending f k (suc i) n (omega arith))

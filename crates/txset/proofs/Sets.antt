@@ -14,7 +14,7 @@ use Rattle.lists.specs.Lists.{elem}
 use Rattle.lists.specs.Below.{anyFrom}
 use Rattle.txset.specs.Sets.{words, positions, isPosition, mem, members, size, isEmpty, isSubset, overlap, setAt, putAt}
 use Rattle.lists.proofs.Bools.{clash, but-not, implies, asked, cases}
-use Rattle.lists.proofs.Below.{all-any, any-ext, none-at, at-none, all-at, at-all, list-ext, count-list, elem-in, elem-out, ascending, list-ascending, count-without}
+use Rattle.lists.proofs.Below.{all-any, any-ext, none-at, at-none, all-at, at-all, list-ext, count-list, elem-in, elem-out, count-without}
 use Rattle.lists.proofs.Numbers.{lt-or-ge}
 use Rattle.lists.proofs.Ranges.{count-below, count-le}
 use Rattle.lists.proofs.Once.{count-in}
@@ -102,9 +102,6 @@ pub size-members : (s : TxSet) → size s ≡ length (members s)
 unfolding size members
 size-members s = count-list (mem s) positions 0
 
-pub size-ext : (s t : TxSet) → ((i : ℕ) → mem s i ≡ mem t i) → size s ≡ size t
-size-ext s t h = size-members s ∙ ap length (members-ext s t h) ∙ sym (size-members t)
-
 -- one member t fewer
 pub size-without : (s u : TxSet) (t : ℕ) → mem s t ≡ true → ((i : ℕ) → mem u i ≡ (mem s i && not (eqb i t))) → size s ≡ suc (size u)
 unfolding size
@@ -144,10 +141,6 @@ members-elem s i =
     (λ l. elem-in (mem s) positions 0 i (omega arith) l)
     (λ l. elem-out (mem s) positions 0 i (λ a b. omega arith) ∙ sym (mem-past s i l))
     (lt-or-ge i positions)
-
-pub members-ascending : (s : TxSet) → ascending 0 (members s) ≡ true
-unfolding members
-members-ascending s = list-ascending (mem s) positions 0 0 (omega arith)
 
 -- ---- lists of sets
 

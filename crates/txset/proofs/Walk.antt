@@ -10,7 +10,7 @@ use borrow.Author.Tests.{not-true, not-false}
 use Rattle.txset.specs.declared.TxSet.{TxSet}
 use Rattle.lists.specs.Below.{anyFrom}
 use Rattle.txset.specs.Sets.{positions, mem, members, size, isEmpty, lowestOf}
-use Rattle.lists.proofs.Below.{first-has, first-below, first-is, list-nil, list-next}
+use Rattle.lists.proofs.Below.{first-has, first-below, list-nil, list-next}
 use Rattle.txset.proofs.Sets.{size-members}
 
 -- the lowest is a member, a position, and the first
@@ -21,10 +21,6 @@ lowest-mem s h = first-has (mem s) positions 0 (not-false (anyFrom (mem s) posit
 pub lowest-position : (s : TxSet) → isEmpty s ≡ false → lowestOf s < positions
 unfolding isEmpty lowestOf
 lowest-position s h = first-below (mem s) positions 0 (not-false (anyFrom (mem s) positions 0) h)
-
-pub lowest-first : (s : TxSet) (i : ℕ) → i < lowestOf s → mem s i ≡ false
-unfolding lowestOf
-lowest-first s i l = first-is (mem s) positions 0 .before i (omega arith) l
 
 -- no member is left
 pub walk-done : (s : TxSet) → isEmpty s ≡ true → members s ≡ []

@@ -161,8 +161,8 @@ impl TxSet {
         while !rest.is_empty() {
             let i = rest.lowest();
             rest = rest.without_lowest();
-            let held = TxSet::at(sets, i);
-            held.union(self).put(sets, i);
+            let old = TxSet::at(sets, i);
+            old.union(self).put(sets, i);
         }
     }
 }
