@@ -95,8 +95,7 @@ fn select(
     deltas: &[i64],
     marks: &[u8],
     room: &mut [usize],
-) -> Reply
-{
+) -> Reply {
     let terms = Terms {
         budget: RawWeight(numbers[4]),
         reserve: numbers[5],
