@@ -16,7 +16,7 @@ use Rattle.slotsets.specs.SlotSets.{capacity}
 use Rattle.slotsets.proofs.SlotSets.{none-has}
 use Rattle.txids.specs.Txids.{sameTxid}
 use Rattle.txids.proofs.Theorems.{same-equal, equal-same}
-use Rattle.ways.specs.Ways.{Way, isCyclic, Bounded}
+use Rattle.ways.specs.Ways.{Way, isCyclic}
 use Rattle.ways.proofs.Cycles.{cyclic-is, is-cyclic}
 use Rattle.pool_table.specs.declared.Side.{Side}
 use Rattle.pool_table.specs.declared.Side.the-variants.{Parents, Children}
@@ -28,7 +28,8 @@ use Rattle.pool_table.specs.WellFormed.{numbersInRange, isTwin, txidsDistinct, 
 use Rattle.pool_table.specs.WellFormed.{clustersWithin, sound}
 use Rattle.pool_table.proofs.Rows.{slot-past, length-side, zeroed-free}
 use Rattle.pool_table.proofs.Theorems.{Wholes}
-use Rattle.pool_links.proofs.Mutual.{parent-parts, occupied-in}
+use Rattle.pool_links.proofs.Mutual.{occupied-in}
+use Rattle.pool_members.proofs.Members.{parents-bounded}
 use Rattle.pool_rules.proofs.Sound.{Sound, sound-parts, free-is}
 use Rattle.pool_history.proofs.Slots.{member-below}
 
@@ -65,9 +66,6 @@ module _ (p : Pool) (a b : ℕ) where
 pub free-names : (side : Side) (b : ℕ) → hasIn (sideOf side free) b ≡ false
 free-names Parents b = none-has b
 free-names Children b = none-has b
-
-parents-bounded : (p : Pool) → Bounded (isParent p) (slotCount p)
-parents-bounded p = record { from = λ i a e. parent-parts p i a e .0; to = λ i a e. parent-parts p i a e .1 }
 
 module _ (p : Pool) (w : Wholes (p .slots)) where
   -- who names another is a slot, and names none past what a set holds

@@ -14,7 +14,6 @@ use Rattle.lists.proofs.Below.{all-at}
 use Rattle.lists.proofs.Lists.{elem-one, elem-head, elem-tail}
 use Rattle.slotsets.specs.SlotSets.{capacity}
 use Rattle.sorting.specs.Sorting.{insert, sortedBy}
-use Rattle.feefrac.specs.declared.FeeFrac.{FeeFrac}
 use Rattle.feefrac.specs.Rate.{rateAt, sum, heldFee}
 use Rattle.feefrac.proofs.Exact.{abs-sum, held-near}
 use Rattle.feeset.specs.Total.{totalFrom}
@@ -33,6 +32,7 @@ use Rattle.pool_order.proofs.Theorems.{slots-once}
 use Rattle.pool_members.proofs.Members.{slots-are}
 use Rattle.pool_members.specs.Members.{membersOf, leadOf, clusters, parentsOf}
 use Rattle.pool_chunks.specs.Chunks.{PoolChunk, feeOf, sizeOf, feesOf, sizesOf, orderOf, partsOf, chunkOf, numbered, chunksOver, allChunks, tried}
+use Rattle.pool_chunks.specs.Steps.{slotRate}
 use Rattle.chunk_tests.specs.Tests.{isNegative, isBelow}
 use Rattle.template_rules.specs.Filling.{Settings, withheld, grown, addition, rawSum, costSum, after, fill, template}
 use Rattle.template_rules.proofs.Collect.{Entries, grown-in}
@@ -118,15 +118,11 @@ module _ (p : Pool) (h : Sound p) (s : ℕ) (held : occupied p s ≡ true) where
 
 -- ---- the template
 
--- its feerate, with its delta
-abbrev pub ownRate : Pool → List ℤ → ℕ → FeeFrac
-ownRate p ds s = record { fee = feeOf p ds s; size = sizeOf p s }
-
 -- what an entry by itself is asked for
 pub record Fits (p : Pool) (w : Settings) (s : ℕ) : Type 0 where
   pub delta : deltaInRange (getD (w .deltas) s (pos 0)) ≡ true
-  pub fee : isNegative (ownRate p (w .deltas) s) ≡ false
-  pub minimum : isBelow (w .terms .minimum) (ownRate p (w .deltas) s) ≡ false
+  pub fee : isNegative (slotRate p (w .deltas) s) ≡ false
+  pub minimum : isBelow (w .terms .minimum) (slotRate p (w .deltas) s) ≡ false
   pub mark : withheld (w .marks) s ≡ false
   pub weight : weightAt p s ≤ w .terms .budget .0
   pub cost : slotAt p s .entry .cost + w .terms .reserve ≤ 80000
