@@ -141,6 +141,22 @@ impl Plan {
         }
     }
 
+    /// A pool that is to be full soon, with parents for all but one in so many adds.
+    pub fn of(slots: usize, limits: Limits, numbers: Numbers, alone: u64) -> Plan {
+        Plan {
+            slots,
+            limits,
+            numbers,
+            rate: 3,
+            target: slots,
+            alone,
+            calls: 0,
+            pace: 1,
+            asks: 0,
+            late: true,
+        }
+    }
+
     /// Whether the first adds are done.
     pub fn is_grown(&self, entries: usize, calls: usize) -> bool {
         entries >= self.target || calls > 2 * self.slots
@@ -292,7 +308,7 @@ fn marks(pool: &Pool, rng: &mut Rng) -> Vec<u8> {
     marks
 }
 
-fn budget(pool: &Pool, rng: &mut Rng) -> u64 {
+pub fn budget(pool: &Pool, rng: &mut Rng) -> u64 {
     let total: u64 = pool.entries.values().map(|entry| entry.weight).sum();
     match rng.below(16) {
         0 => 0,
@@ -303,7 +319,7 @@ fn budget(pool: &Pool, rng: &mut Rng) -> u64 {
     }
 }
 
-fn reserve(pool: &Pool, rng: &mut Rng) -> u64 {
+pub fn reserve(pool: &Pool, rng: &mut Rng) -> u64 {
     let costs = pool.entries.values().map(|entry| entry.cost);
     let costs = costs.fold(0, u64::saturating_add);
     match rng.below(16) {
@@ -316,7 +332,7 @@ fn reserve(pool: &Pool, rng: &mut Rng) -> u64 {
 }
 
 /// Often exactly the rate of a chunk, or one more.
-fn minimum(chunks: &[Chunk], rng: &mut Rng) -> u64 {
+pub fn minimum(chunks: &[Chunk], rng: &mut Rng) -> u64 {
     if chunks.is_empty() {
         return 1;
     }

@@ -15,7 +15,11 @@ mod original;
 mod original_pool;
 mod ours;
 mod pool;
+mod pool_lines;
+mod pool_program;
 mod pool_replay;
+mod pool_script;
+mod pool_trials;
 mod replay;
 mod rng;
 mod run;
@@ -48,7 +52,11 @@ compare templates [S] [--templates N] [--reading]
 compare tables [--seed S] [--tables N]  compare calls on damaged tables with the second reading
 compare smallest                        search for the smallest pools whose templates differ from the original's
 compare pool DIR                        write calls on pools and their answers, as stdin and stdout, to a folder
-compare template DIR                    the same of templates";
+compare template DIR                    the same of templates
+compare pool-lines                      answer the pool program's lines on standard input by the second reading
+compare pool-history DIR                write a long history of the pool program, as stdin and stdout, to a folder
+compare pool-program PROGRAM [--seed S] [--histories N]
+                                        compare a built pool program with the second reading on random histories";
 
 fn main() -> ExitCode {
     let words: Vec<String> = std::env::args().skip(1).collect();
@@ -104,6 +112,12 @@ fn perform(words: &[&str]) -> Result<(), String> {
         ["replay", folder] => replay::write(Path::new(folder)),
         ["pool", folder] => pool_replay::write(Path::new(folder)),
         ["template", folder] => template_replay::write(Path::new(folder)),
+        ["pool-lines"] => pool_trials::answer_lines(),
+        ["pool-history", folder] => pool_lines::write(Path::new(folder)),
+        ["pool-program", program, options @ ..] => {
+            let [seed, histories] = numbers(options, [("--seed", 1), ("--histories", 300)])?;
+            pool_trials::run(Path::new(program), seed, histories)
+        }
         ["texts", folder] => {
             let told = texts::write_table(Path::new(folder));
             told.map_err(|error| format!("{folder}: {error}"))

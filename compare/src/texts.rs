@@ -8,7 +8,7 @@ use std::path::Path;
 
 // ---- what the program prints
 
-const MALFORMED: u64 = 13;
+pub const MALFORMED: u64 = 13;
 
 struct Member {
     fee: i64,
@@ -70,7 +70,7 @@ fn field<'a>(rest: &mut &'a [u8], key: &str) -> Result<&'a [u8], u64> {
 }
 
 // "Plain decimals without extra zeros", and in the range of a u64.
-fn number(digits: &[u8]) -> Result<u64, u64> {
+pub fn number(digits: &[u8]) -> Result<u64, u64> {
     let plain = !digits.is_empty()
         && digits.iter().all(|b| b.is_ascii_digit())
         && (digits[0] != b'0' || digits.len() == 1);
@@ -85,7 +85,7 @@ fn number(digits: &[u8]) -> Result<u64, u64> {
 }
 
 // "`-` only on a non-zero fee; fee i64"
-fn fee(value: &[u8]) -> Result<i64, u64> {
+pub fn fee(value: &[u8]) -> Result<i64, u64> {
     let fee = match value.strip_prefix(b"-") {
         None => i128::from(number(value)?),
         Some(digits) => match number(digits)? {
