@@ -1,5 +1,6 @@
 pub mod Parts
 pub mod Rows
+pub mod Named
 pub mod Legal
 pub mod Zeroed
 pub mod Theorems

@@ -20,7 +20,7 @@ use Rattle.pool_table.specs.declared.Side.{Side}
 use Rattle.pool_table.specs.declared.Side.the-variants.{Parents, Children}
 use Rattle.pool_table.specs.Pool.{Slot, Pool, free, slotAt, slotCount}
 use Rattle.pool_table.specs.Words.{row, rowAt, parentsAt, childrenAt, sideAt, slotsIn, txidIn, entryIn, slotIn, slotsFrom, poolOf, entryWords, slotWords}
-use Rattle.pool_table.specs.Links.{sideOf}
+use Rattle.pool_table.specs.Links.{sideOf, hasLinks}
 use Rattle.pool_table.proofs.Parts.{part-split, zeros-at}
 
 -- ---- the slots of a table
@@ -73,6 +73,21 @@ slot-words t at =
     ap₂ _++_ (entry-words t at)
     (ap (λ (n : ℕ). wordsFrom t setWords (at + parentsAt) ++ wordsFrom t setWords n) (sym e) ∙ sym (part-split t setWords setWords (at + parentsAt)))
     ∙ sym (part-split t parentsAt 32 at)
+
+-- the words of a slot, of both its sets, and of one of them are runs of its row
+module _ (t : List ℕ) (s : ℕ) (h : s < slotCount (poolOf t)) where
+  pub row-words : slotWords (slotAt (poolOf t) s) ≡ wordsFrom t row (rowAt s + 0)
+  row-words = ap slotWords (slot-at t s h) ∙ slot-words t (rowAt s) ∙ ap (wordsFrom t row) (sym (add-zero (rowAt s)))
+
+  pub row-side : (side : Side) → sideOf side (slotAt (poolOf t) s) ≡ wordsFrom t setWords (rowAt s + sideAt side)
+  unfolding slotIn setFrom
+  row-side Parents = ap (λ (x : Slot). x .parents) (slot-at t s h)
+  row-side Children = ap (λ (x : Slot). x .children) (slot-at t s h)
+
+  pub row-links : slotAt (poolOf t) s .parents ++ slotAt (poolOf t) s .children ≡ wordsFrom t 32 (rowAt s + parentsAt)
+  row-links =
+      let e : rowAt s + 23 ≡ rowAt s + 7 + 16 = omega arith in
+      ap₂ _++_ (row-side Parents) (row-side Children ∙ ap (wordsFrom t setWords) e) ∙ sym (part-split t setWords setWords (rowAt s + parentsAt))
 
 -- word k of a slot
 pub word-at : (t : List ℕ) (s k : ℕ) → s < slotCount (poolOf t) → k < row → getD (slotWords (slotAt (poolOf t) s)) k 0 ≡ getD t (rowAt s + k) 0
@@ -157,6 +172,10 @@ free-zeros = refl
 pub zeroed-free : allOf (eqb 0) (slotWords free) ≡ true
 unfolding allOf
 zeroed-free = ap (allOf (eqb 0)) free-zeros
+
+pub free-unlinked : hasLinks free ≡ false
+unfolding hasLinks allOf setOf wordsOf wordOf
+free-unlinked = refl
 
 -- ---- a slot is its words
 

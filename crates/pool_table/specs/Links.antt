@@ -1,9 +1,10 @@
 -- The links of a pool and what follows from them: chains of parents, clusters, and the weight of a set of slots. Assumes nothing.
 use Prim.Native.Nat.{ℕ, zero, suc, _+_}
-use mathlib.Core.Bool.{Bool, cond, _&&_, _||_}
-use mathlib.Core.List.{List}
+use mathlib.Core.Bool.{Bool, cond, not, _&&_, _||_}
+use mathlib.Core.List.{List, [], _++_}
 use lib.Dec.{eqb, ltb}
 use Rattle.lists.specs.Below.{anyFrom, countFrom}
+use Rattle.lists.specs.Lists.{allOf}
 use Rattle.txset.specs.Sets.{hasIn}
 use Rattle.ways.specs.Ways.{Way, reach}
 use Rattle.pool_table.specs.declared.Side.{Side}
@@ -14,6 +15,14 @@ use Rattle.pool_table.specs.Pool.{Slot, Pool, slotAt, slotCount, weightA
 abbrev pub sideOf : Side → Slot → List ℕ
 sideOf Parents x = x .parents
 sideOf Children x = x .children
+
+-- the set of slot s on one side as words; past the last slot there are none
+unfoldable pub linksAt : Pool → Side → ℕ → List ℕ
+linksAt p side s = cond (ltb s (slotCount p)) (sideOf side (slotAt p s)) []
+
+-- some word of a slot's parents or children is not 0: it names a slot
+unfoldable pub hasLinks : Slot → Bool
+hasLinks x = not (allOf (eqb 0) (x .parents ++ x .children))
 
 -- slot a names slot b as its parent, or as its child; both are slots of the pool
 unfoldable pub isParent : Pool → ℕ → ℕ → Bool

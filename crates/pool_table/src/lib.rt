@@ -3,15 +3,16 @@
 // what the words mean is the record `Pool` of specs/, and everything above speaks of that record alone.
 ghost use mathlib.Core.Path.{_≡_};
 ghost use mathlib.Core.Bool.{cond, _&&_};
-ghost use Prim.Native.Nat.{_<_};
+ghost use Prim.Native.Nat.{_+_, _<_, _≤_};
 ghost use lib.ListN.{length, getD, replicate};
 ghost use lib.Dec.{eqb, ltb};
 ghost use Rattle.lists.specs.Lists.{allOf};
 ghost use Rattle.txset.specs.Sets.{hasIn};
+ghost use Rattle.slotsets.specs.SlotSets.{wordsFrom};
 ghost use Rattle.pool_table.specs.Pool.{slotAt, slotCount, occupied, free};
 ghost use Rattle.pool_table.specs.Words.{isLegal, poolOf, entryWords, slotWords, row, rowAt, parentsAt, sideAt};
 ghost use Rattle.pool_table.specs.Ranges.{limitsInRange, entryInRange};
-ghost use Rattle.pool_table.specs.Links.{sideOf};
+ghost use Rattle.pool_table.specs.Links.{sideOf, linksAt, hasLinks};
 ghost use Rattle.pool_table.specs.Changes.{Becomes, changed, withEntry, withLink, unlinked, withTotal, made};
 use slotsets::CAPACITY;
 use slotsets::SET_WORDS;
@@ -35,6 +36,9 @@ const COST: usize = 6;
 const PARENTS: usize = 7;
 
 const CHILDREN: usize = 23;
+
+// The words of both sets.
+const LINKS: usize = 32;
 
 // What making a pool stores.
 pub struct Limits {
@@ -152,6 +156,16 @@ fn word(table: &[u64], s: usize, k: usize) -> u64
     table[HEADER + s * ROW + k]
 }
 
+// A run of words of a slot's row, from word k on.
+fn part(table: &[u64], s: usize, k: usize, len: usize) -> &[u64]
+    requires { ⌜ (s < slotCount (poolOf (now table))) × (k + len ≤ row) ⌝ }
+    ensures { λ r. ⌜ now r ≡ wordsFrom (now (table .entry)) len (rowAt s + k) ⌝ }
+{
+    let from = HEADER + s * ROW + k;
+    let end = from + len;
+    &table[from..end]
+}
+
 // The word at a place of the header; past the table's end, 0.
 fn header_word(table: &[u64], at: usize) -> u64
     ensures { λ r. ⌜ r ≡ getD (now (table .entry)) at 0 ⌝ }
@@ -203,20 +217,37 @@ pub fn is_occupied(table: &[u64], s: usize) -> bool
     weight(table, s).0 != 0
 }
 
+// Whether every word is 0: their digits together, so that no word waits for a test of the one before.
+fn are_zero(words: &[u64]) -> bool
+    ensures { λ r. ⌜ r ≡ allOf (eqb 0) (now (words .entry)) ⌝ }
+{
+    let mut digits: u64 = 0;
+    let mut k: usize = 0;
+    while k < words.len() {
+        digits |= words[k];
+        k += 1;
+    }
+    digits == 0
+}
+
 // Whether every word of a slot's row is 0.
 pub fn is_zeroed(table: &[u64], s: usize) -> bool
     ensures { λ r. ⌜ r ≡ allOf (eqb 0) (slotWords (slotAt (poolOf (now (table .entry))) s)) ⌝ }
 {
     if s < slots(table) {
-        let mut digits: u64 = 0;
-        let mut k: usize = 0;
-        while k < ROW {
-            digits |= word(table, s, k);
-            k += 1;
-        }
-        return digits == 0;
+        return are_zero(part(table, s, 0, ROW));
     }
     true
+}
+
+// Whether slot s names any slot as its parent or its child.
+pub fn is_linked(table: &[u64], s: usize) -> bool
+    ensures { λ r. ⌜ r ≡ hasLinks (slotAt (poolOf (now (table .entry))) s) ⌝ }
+{
+    if s < slots(table) {
+        return !are_zero(part(table, s, PARENTS, LINKS));
+    }
+    false
 }
 
 // Where a side's set starts in a row.
@@ -227,6 +258,16 @@ fn offset(side: Side) -> usize
         Side::Parents => PARENTS,
         Side::Children => CHILDREN,
     }
+}
+
+// The words of a slot's set on a side; past the last slot, none.
+pub fn links(table: &[u64], side: Side, s: usize) -> &[u64]
+    ensures { λ r. ⌜ now r ≡ linksAt (poolOf (now (table .entry))) side s ⌝ }
+{
+    if s < slots(table) {
+        return part(table, s, offset(side), SET_WORDS);
+    }
+    &table[..0]
 }
 
 // Word j of a slot's parents or children: 64 slots, from 64 j on; past the set's end, 0.
