@@ -1,6 +1,6 @@
 /*
- * Yaghrudil for C: the order in which a cluster of transactions should be mined, the chunks of it that belong together, and a pool of
- * transactions in memory that the caller lends.
+ * Yaghrudil for C: the order in which a cluster of transactions should be mined, the chunks of it that belong together, a pool of
+ * transactions in memory that the caller lends, and block templates out of it.
  *
  * Link with libyaghrudil.a, which `rt staticlib yaghrudil` writes to target/staticlib for x86-64.
  *
@@ -79,6 +79,9 @@ _Static_assert(sizeof(size_t) == 8, "Yaghrudil counts and positions are 64-bit")
 /* The highest count limit and the highest size limit of a pool's clusters, in members and in vbytes; the lowest of each is 1. */
 #define YAGHRUDIL_COUNT_LIMIT_MAX 64
 #define YAGHRUDIL_SIZE_LIMIT_MAX 101000
+
+/* The sigop cost that a block may have, the reserve included. */
+#define YAGHRUDIL_BLOCK_SIGOPS_MAX 80000
 
 /* ---- Answers ---- */
 
@@ -185,7 +188,7 @@ yaghrudil_reply yaghrudil_chunk_lengths(
  * A txid is 32 bytes in the order in which they are hashed and stored, as an input's outpoint has them; the hexadecimal digits that a node
  * displays have the bytes the other way round. Parents are txids one behind the other, and their count is of bytes: 32 for each.
  *
- * These calls use up to 24 kilobytes of stack.
+ * These calls use up to 24 kilobytes of stack, and yaghrudil_pool_template up to 300: it should not run on a thread with a small stack.
  */
 
 /* What yaghrudil_pool_make stores. */
@@ -206,6 +209,13 @@ typedef struct yaghrudil_totals {
     size_t entries;  /* how many entries the pool has */
     uint64_t weight; /* their raw weight together */
 } yaghrudil_totals;
+
+/* What a block has left for a template. */
+typedef struct yaghrudil_terms {
+    uint64_t budget;  /* the raw weight that the template may have: 4,000,000 less what header and coinbase take, usually 8,000 */
+    uint64_t reserve; /* the sigop cost that is kept for the coinbase, usually 400 */
+    uint64_t minimum; /* the least feerate of a chunk, in satoshi per 1,000 vbytes; with 0 only what pays less than nothing is below it */
+} yaghrudil_terms;
 
 /*
  * Makes an empty pool with these limits, whatever the table held.
@@ -254,6 +264,30 @@ uint64_t yaghrudil_pool_clear(uint64_t *table, size_t table_count);
 
 /* How many entries there are, and their raw weight. Refuses with YAGHRUDIL_TABLE_ILL_FORMED. */
 yaghrudil_totals yaghrudil_pool_totals(const uint64_t *table, size_t table_count);
+
+/*
+ * Selects transactions for a block: writes their slots to the start of the room, in the order in which they go into the block, each once
+ * and behind its ancestors in the pool. Their raw weights together are at most the budget, and their sigop costs with the reserve at most
+ * YAGHRUDIL_BLOCK_SIGOPS_MAX.
+ *
+ * deltas and withheld stand by slot, and have as many elements as the pool has slots; those of free slots are not looked at. A delta, from
+ * YAGHRUDIL_DELTA_MIN to YAGHRUDIL_DELTA_MAX, is added to its entry's fee. A mark other than 0 keeps its entry out, and with it all that
+ * need it.
+ *
+ * The chunks of all clusters are tried by exact feerate, the highest first: fees with deltas over adjusted weights, the larger of raw
+ * weight and sigop cost times bytes_per_sigop. A chunk goes out with the ancestors that it needs, or is passed over where it pays less than
+ * nothing or than the minimum, needs what is withheld, or does not fit what is left. Smaller chunks behind it are still tried.
+ *
+ * Answers 0 with `written` the number of slots, or else refuses with the first that holds of: YAGHRUDIL_TABLE_ILL_FORMED,
+ * YAGHRUDIL_LENGTHS_DIFFER (deltas, withheld), YAGHRUDIL_ROOM_TOO_SHORT (there must be room for every entry of the pool),
+ * YAGHRUDIL_OUT_OF_RANGE (a delta).
+ */
+yaghrudil_reply yaghrudil_pool_template(
+    const uint64_t *table, size_t table_count,
+    const int64_t *deltas, size_t deltas_count,
+    const uint8_t *withheld, size_t withheld_count,
+    yaghrudil_terms terms,
+    size_t *room, size_t room_count);
 
 #ifdef __cplusplus
 }

@@ -1,4 +1,7 @@
-/* A pool in memory of its own: a parent and its child are added, a cost is set, one is refused, one removed; then all are gone. */
+/*
+ * A pool in memory of its own: a parent and its child are added, a cost is set, one is refused; templates are made with a delta and with a
+ * withheld entry; then one is removed, and all are gone.
+ */
 #include "../yaghrudil.h"
 
 #include <inttypes.h>
@@ -48,6 +51,36 @@ static int fill(void)
         && show_totals(2, 1000);
 }
 
+/* Selects with a delta for the one that stands alone and a mark for the parent, and says which slots went out. */
+static int selects(int64_t delta, uint8_t mark, size_t count, const size_t *expected)
+{
+    int64_t deltas[SLOTS] = {0, 0, delta};
+    uint8_t withheld[SLOTS] = {mark};
+    yaghrudil_terms terms = {.budget = 1200, .reserve = 400, .minimum = 1000};
+    size_t room[SLOTS] = {0};
+    yaghrudil_reply reply = yaghrudil_pool_template(table, WORDS, deltas, SLOTS, withheld, SLOTS, terms, room, SLOTS);
+    int right = said("template", reply.answer, YAGHRUDIL_SUCCESS) && reply.written == count;
+    printf("  slots");
+    for (size_t k = 0; k < reply.written; k++) {
+        printf(" %zu", room[k]);
+        right = right && room[k] == expected[k];
+    }
+    printf("\n");
+    return right;
+}
+
+/* Parent and child together pay more than the one that stands alone, until a delta lifts it; without their parent the child can't go. */
+static int templates(void)
+{
+    static const uint8_t alone[YAGHRUDIL_TXID_BYTES] = {3};
+    static const size_t family[] = {0, 1}, single[] = {2};
+    return said_slot("add one that stands alone", yaghrudil_pool_add(table, WORDS, alone, 500, 600, 4, alone, 0), YAGHRUDIL_SUCCESS)
+        && selects(0, 0, 2, family)
+        && selects(400, 0, 1, single)
+        && selects(0, 1, 1, single)
+        && said_slot("remove it", yaghrudil_pool_remove(table, WORDS, alone), YAGHRUDIL_SUCCESS);
+}
+
 static int empty(void)
 {
     return said_slot("remove the parent", yaghrudil_pool_remove(table, WORDS, txids[0]), YAGHRUDIL_SUCCESS)
@@ -66,5 +99,5 @@ static int damage(void)
 
 int main(void)
 {
-    return !(fill() && empty() && damage());
+    return !(fill() && templates() && empty() && damage());
 }

@@ -132,4 +132,16 @@ extern "C" {
     pub fn yaghrudil_pool_clear(table: *mut u64, table_count: usize) -> u64;
 
     pub fn yaghrudil_pool_totals(table: *const u64, table_count: usize) -> Totals;
+
+    pub fn yaghrudil_pool_template(
+        table: *const u64,
+        table_count: usize,
+        deltas: *const i64,
+        deltas_count: usize,
+        withheld: *const u8,
+        withheld_count: usize,
+        terms: crate::Terms,
+        room: *mut usize,
+        room_count: usize,
+    ) -> Reply;
 }

@@ -8,8 +8,8 @@ mod refusal;
 
 pub use cluster::{chunk_lengths, linearize, post_linearize, FEE_MAX, MEMBERS_MAX};
 pub use pool::{
-    table_words, Entry, Limits, Pool, Totals, Txid, COUNT_LIMIT_MAX, DELTA_MAX, POOL_FEE_MAX,
-    SIZE_LIMIT_MAX, SLOTS_MAX, WEIGHT_MAX,
+    table_words, Entry, Limits, Pool, Terms, Totals, Txid, BLOCK_SIGOPS_MAX, COUNT_LIMIT_MAX,
+    DELTA_MAX, POOL_FEE_MAX, SIZE_LIMIT_MAX, SLOTS_MAX, WEIGHT_MAX,
 };
 pub use refusal::{Refusal, UnknownNumber};
 

@@ -2,7 +2,7 @@
 
 use crate::calls::{
     done, yaghrudil_pool_add, yaghrudil_pool_clear, yaghrudil_pool_make, yaghrudil_pool_remove,
-    yaghrudil_pool_set_cost, yaghrudil_pool_totals,
+    yaghrudil_pool_set_cost, yaghrudil_pool_template, yaghrudil_pool_totals,
 };
 use crate::Refusal;
 use std::fmt;
@@ -24,6 +24,9 @@ pub const COUNT_LIMIT_MAX: u64 = 64;
 
 /// The highest size limit of a pool's clusters, in vbytes; the lowest is 1.
 pub const SIZE_LIMIT_MAX: u64 = 101_000;
+
+/// The sigop cost that a block may have, the reserve included.
+pub const BLOCK_SIGOPS_MAX: u64 = 80_000;
 
 /// The words of a table of that many slots; `usize::MAX` where there are too many to count.
 pub const fn table_words(slots: usize) -> usize {
@@ -69,6 +72,21 @@ pub struct Entry {
     /// Its sigop cost by BIP 141. Any number; `u64::MAX` where it is not known, and then it goes
     /// into no template.
     pub sigop_cost: u64,
+}
+
+/// What a block has left for a template.
+#[derive(Clone, Copy, Debug, PartialEq, Eq, Hash)]
+#[repr(C)]
+pub struct Terms {
+    /// The raw weight that the template may have, in weight units: the block's 4,000,000 less what
+    /// the header and the coinbase take, usually 8,000. With 0 the template is empty.
+    pub budget: u64,
+    /// The sigop cost that is kept for the coinbase, usually 400. With the template's it is at most
+    /// [`BLOCK_SIGOPS_MAX`].
+    pub reserve: u64,
+    /// The least feerate of a chunk, in satoshi per 1,000 vbytes; 0 lets all pass that do not pay
+    /// less than nothing.
+    pub minimum: u64,
 }
 
 /// What a pool holds.
@@ -234,6 +252,70 @@ impl<M: AsRef<[u64]> + AsMut<[u64]>> Pool<M> {
         let totals = unsafe { yaghrudil_pool_totals(table.as_ptr(), table.len()) };
         let (entries, weight) = totals.both()?;
         Ok(Totals { entries, weight })
+    }
+
+    /// Selects transactions for a block: writes their slots to the start of `room`, in the order in
+    /// which they go into the block, each once and behind its ancestors in the pool, and returns
+    /// them.
+    ///
+    /// `deltas` and `withheld` stand by slot and are as long as the pool has slots; those of free
+    /// slots are not looked at. A delta, within [`DELTA_MAX`] above and below zero, is added to its
+    /// transaction's fee. A mark other than 0 keeps its transaction out, and with it every
+    /// transaction that needs it.
+    ///
+    /// The chunks of all clusters are tried by exact feerate, the highest first, and each goes out
+    /// with the ancestors that it needs, or is passed over: where it pays less than the minimum, or
+    /// needs what is withheld, or does not fit the budget or the sigops that are left. Smaller
+    /// chunks behind it are still tried.
+    ///
+    /// The call uses up to 300 kilobytes of stack.
+    ///
+    /// Refuses with the first that holds of [`Refusal::TableIllFormed`], [`Refusal::LengthsDiffer`]
+    /// (`deltas`, `withheld`), [`Refusal::RoomTooShort`] (there must be room for every entry of the
+    /// pool), [`Refusal::OutOfRange`] (a delta).
+    ///
+    /// ```
+    /// use yaghrudil::{Entry, Limits, Pool, Refusal, Terms};
+    ///
+    /// let mut pool = Pool::new(4, Limits::default())?;
+    /// let parent = Entry { txid: [1; 32], fee: 0, weight: 400, sigop_cost: 4 };
+    /// let child = Entry { txid: [2; 32], fee: 900, weight: 600, sigop_cost: 4 };
+    /// let alone = Entry { txid: [3; 32], fee: 600, weight: 600, sigop_cost: 4 };
+    /// for (entry, parents) in [(alone, vec![]), (parent, vec![]), (child, vec![[1; 32]])] {
+    ///     pool.add(&entry, &parents)?;
+    /// }
+    /// let terms = Terms { budget: 1200, reserve: 400, minimum: 1000 };
+    /// let mut room = [0; 4];
+    /// // the one that stands alone pays more than parent and child together, and leaves no room
+    /// assert_eq!(pool.template(&[0; 4], &[0; 4], terms, &mut room)?, [0]);
+    /// // a delta lifts the child, and with it the parent
+    /// assert_eq!(pool.template(&[0, 0, 500, 0], &[0; 4], terms, &mut room)?, [1, 2]);
+    /// # Ok::<(), Refusal>(())
+    /// ```
+    pub fn template<'r>(
+        &self,
+        deltas: &[i64],
+        withheld: &[u8],
+        terms: Terms,
+        room: &'r mut [usize],
+    ) -> Result<&'r [usize], Refusal> {
+        let table = self.table.as_ref();
+        // SAFETY: each pointer and count are those of one slice, and the mutable borrow overlaps no
+        // other. The call keeps none.
+        let reply = unsafe {
+            yaghrudil_pool_template(
+                table.as_ptr(),
+                table.len(),
+                deltas.as_ptr(),
+                deltas.len(),
+                withheld.as_ptr(),
+                withheld.len(),
+                terms,
+                room.as_mut_ptr(),
+                room.len(),
+            )
+        };
+        Ok(&room[..reply.written()?])
     }
 
     /// How many slots there are.

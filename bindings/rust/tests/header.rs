@@ -67,6 +67,7 @@ fn limits_are_the_same() {
     assert_eq!(number("WEIGHT_MAX"), yaghrudil::WEIGHT_MAX);
     assert_eq!(number("COUNT_LIMIT_MAX"), yaghrudil::COUNT_LIMIT_MAX);
     assert_eq!(number("SIZE_LIMIT_MAX"), yaghrudil::SIZE_LIMIT_MAX);
+    assert_eq!(number("BLOCK_SIGOPS_MAX"), yaghrudil::BLOCK_SIGOPS_MAX);
     let words = defines()["YAGHRUDIL_TABLE_WORDS(slots)"];
     assert_eq!(words, "(4 + 39 * (size_t)(slots))");
     assert_eq!((table_words(0), table_words(1)), (4, 4 + 39));

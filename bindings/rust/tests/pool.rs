@@ -1,8 +1,8 @@
 //! Each call of a pool through the wrapper, and each of its refusals.
 
 use yaghrudil::{
-    table_words, Entry, Limits, Pool, Refusal, Totals, Txid, COUNT_LIMIT_MAX, POOL_FEE_MAX,
-    SIZE_LIMIT_MAX, SLOTS_MAX, WEIGHT_MAX,
+    table_words, Entry, Limits, Pool, Refusal, Terms, Totals, Txid, COUNT_LIMIT_MAX, DELTA_MAX,
+    POOL_FEE_MAX, SIZE_LIMIT_MAX, SLOTS_MAX, WEIGHT_MAX,
 };
 
 /// A txid that is told by a number.
@@ -233,6 +233,113 @@ fn clear_keeps_the_limits() {
     assert_eq!(anew.words(), self::pool(5).words());
 }
 
+const UNTOUCHED: usize = 12345;
+
+/// A block that takes what it is offered.
+const WIDE: Terms = Terms {
+    budget: 4_000_000,
+    reserve: 0,
+    minimum: 0,
+};
+
+/// The slots of a template, in a room that is longer than needed and must keep what is behind them.
+fn template(
+    pool: &Pool,
+    deltas: &[i64],
+    withheld: &[u8],
+    terms: Terms,
+) -> Result<Vec<usize>, Refusal> {
+    let mut room = vec![UNTOUCHED; pool.slots() + 2];
+    let slots = pool
+        .template(deltas, withheld, terms, &mut room)
+        .map(<[usize]>::to_vec);
+    let written = slots.as_ref().map_or(0, Vec::len);
+    assert!(room[written..].iter().all(|&place| place == UNTOUCHED));
+    slots
+}
+
+/// Slot 0 pays little and is the parent of slot 1, which pays much; slot 2 stands alone; slot 3 is
+/// free.
+fn family() -> Pool {
+    let mut pool = pool(4);
+    for (number, fee, parents) in [(1, 0, &[][..]), (2, 3000, &[txid(1)]), (3, 1000, &[])] {
+        let entry = Entry {
+            fee,
+            ..entry(number)
+        };
+        pool.add(&entry, parents).unwrap();
+    }
+    pool
+}
+
+#[test]
+fn a_template_has_the_best_first() {
+    let pool = family();
+    let none = ([0; 4], [0; 4]);
+    assert_eq!(template(&pool, &none.0, &none.1, WIDE), Ok(vec![0, 1, 2]));
+    let empty = self::pool(4);
+    assert_eq!(template(&empty, &none.0, &none.1, WIDE), Ok(vec![]));
+    // a delta lifts the one that stands alone; what a free slot has is not looked at
+    let lifted = [0, 0, 501, i64::MAX];
+    assert_eq!(template(&pool, &lifted, &none.1, WIDE), Ok(vec![2, 0, 1]));
+    // any mark but 0 withholds, an ancestor too
+    for mark in [1, 2, 255] {
+        let withheld = [mark, 0, 0, 1];
+        assert_eq!(template(&pool, &none.0, &withheld, WIDE), Ok(vec![2]));
+    }
+}
+
+#[test]
+fn a_template_keeps_to_its_terms() {
+    let pool = family();
+    let selected = |terms| template(&pool, &[0; 4], &[0; 4], terms).unwrap();
+    let budget = |budget| selected(Terms { budget, ..WIDE });
+    assert_eq!(budget(1200), [0, 1, 2]);
+    assert_eq!(budget(1199), [0, 1]);
+    // the family does not fit; what is smaller still goes
+    assert_eq!(budget(799), [2]);
+    assert!(budget(0).is_empty());
+    let reserve = |reserve| selected(Terms { reserve, ..WIDE });
+    assert_eq!(reserve(80_000 - 12), [0, 1, 2]);
+    assert_eq!(reserve(80_000 - 11), [0, 1]);
+    assert_eq!(reserve(80_000 - 7), [2]);
+    assert!(reserve(u64::MAX).is_empty());
+    // 1,000 sat over 100 vbytes, and 3,000 over 200
+    let minimum = |minimum| selected(Terms { minimum, ..WIDE });
+    assert_eq!(minimum(10_000), [0, 1, 2]);
+    assert_eq!(minimum(10_001), [0, 1]);
+    assert!(minimum(15_001).is_empty());
+}
+
+#[test]
+fn template_refuses() {
+    let pool = family();
+    let refused = |deltas: &[i64], withheld: &[u8], places: usize| {
+        let mut room = [UNTOUCHED; 4];
+        let answer = pool.template(deltas, withheld, WIDE, &mut room[..places]);
+        let refusal = answer.err();
+        assert!(refusal.is_none() || room == [UNTOUCHED; 4]);
+        refusal
+    };
+    for length in [0, 3, 5] {
+        let short = Some(Refusal::LengthsDiffer);
+        assert_eq!(refused(&vec![0; length], &[0; 4], 4), short);
+        assert_eq!(refused(&[0; 4], &vec![0; length], 4), short);
+    }
+    assert_eq!(refused(&[0; 4], &[0; 4], 2), Some(Refusal::RoomTooShort));
+    assert_eq!(refused(&[0; 4], &[0; 4], 3), None);
+    for delta in [DELTA_MAX + 1, -DELTA_MAX - 1, i64::MIN] {
+        let deltas = [0, delta, 0, 0];
+        assert_eq!(refused(&deltas, &[0; 4], 3), Some(Refusal::OutOfRange));
+        // a room that is too short goes before it, and lengths before both
+        assert_eq!(refused(&deltas, &[0; 4], 2), Some(Refusal::RoomTooShort));
+        assert_eq!(refused(&deltas, &[0; 3], 2), Some(Refusal::LengthsDiffer));
+    }
+    for delta in [DELTA_MAX, -DELTA_MAX] {
+        assert_eq!(refused(&[0, delta, 0, 0], &[0; 4], 3), None);
+    }
+}
+
 #[test]
 fn memory_can_be_lent() {
     let mut words = vec![u64::MAX; table_words(2)];
@@ -309,6 +416,10 @@ fn every_call_but_make_tests_the_table() {
     assert_eq!(pool.set_cost(&txid(1), 1), Err(ill));
     assert_eq!(pool.clear(), Err(ill));
     assert_eq!(pool.totals(), Err(ill));
+    let mut room = [UNTOUCHED; 2];
+    // it goes before lengths
+    assert_eq!(pool.template(&[], &[], WIDE, &mut room), Err(ill));
+    assert_eq!(room, [UNTOUCHED; 2]);
     assert_eq!(pool.words(), [1; 82]);
     assert_eq!(pool.make(Limits::default()), Ok(()));
     assert_eq!(pool.add(&entry(1), &[]), Ok(0));

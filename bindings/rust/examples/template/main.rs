@@ -1,0 +1,67 @@
+//! A block template from a list that a person can read and edit: prints what was selected and what
+//! was passed over, and draws the block's fee-size diagram.
+//!
+//!     template LIST [PICTURE]
+//!
+//! LIST is a file, or `-` for standard input; its form is in `pool.txt`, beside this file. PICTURE
+//! is written as SVG. The tables go to standard output, everything else to standard error.
+
+mod block;
+mod list;
+mod picture;
+mod table;
+#[cfg(test)]
+mod tests;
+
+use std::io::Read;
+use std::process::ExitCode;
+use std::{env, fs, io};
+
+fn main() -> ExitCode {
+    let words: Vec<String> = env::args().skip(1).collect();
+    let done = match &words[..] {
+        [list] => run(list, None),
+        [list, picture] => run(list, Some(picture)),
+        _ => Err("usage: template LIST [PICTURE]".into()),
+    };
+    match done {
+        Ok(()) => ExitCode::SUCCESS,
+        Err(message) => {
+            eprintln!("{message}");
+            ExitCode::FAILURE
+        }
+    }
+}
+
+fn run(list: &str, picture: Option<&String>) -> Result<(), String> {
+    let name = if list == "-" { "standard input" } else { list };
+    let text = read(list).map_err(|error| format!("{name}: {error}"))?;
+    let (tables, svg) = answer(&text).map_err(|wrong| format!("{name}:{wrong}"))?;
+    print!("{tables}");
+    if let Some(path) = picture {
+        fs::write(path, svg).map_err(|error| format!("{path}: {error}"))?;
+        eprintln!("the diagram is in {path}");
+    }
+    Ok(())
+}
+
+fn read(list: &str) -> io::Result<String> {
+    if list != "-" {
+        return fs::read_to_string(list);
+    }
+    let mut text = String::new();
+    io::stdin().read_to_string(&mut text)?;
+    Ok(text)
+}
+
+/// The tables and the picture.
+fn answer(text: &str) -> Result<(String, String), list::Wrong> {
+    let list = list::read(text)?;
+    let block = block::fill(&list)?;
+    let tables = format!(
+        "{}\n\n{}",
+        table::summary(&list, &block),
+        table::tables(&list, &block)
+    );
+    Ok((tables, picture::draw(&list, &block)))
+}
