@@ -16,6 +16,7 @@ mod original_pool;
 mod ours;
 mod pool;
 mod pool_lines;
+mod pool_measure;
 mod pool_program;
 mod pool_replay;
 mod pool_script;
@@ -42,6 +43,7 @@ use std::process::ExitCode;
 const USAGE: &str = "\
 compare run [--seed S] [--clusters N]   compare the library with the original on good and bad inputs
 compare bench                           print a table of times
+compare pool-bench                      print tables of times of a pool's calls
 compare worst [--seconds S]             search for the clusters with the smallest gain
 compare wrong [--tries N]               search for the smallest cluster that tells each wrong program from the right one
 compare replay DIR                      write cases and answers, as stdin and stdout, to a folder
@@ -81,6 +83,10 @@ fn perform(words: &[&str]) -> Result<(), String> {
         }
         ["bench"] => {
             measure::bench();
+            Ok(())
+        }
+        ["pool-bench"] => {
+            pool_measure::bench();
             Ok(())
         }
         ["worst", options @ ..] => {
