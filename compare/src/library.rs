@@ -1,6 +1,7 @@
 //! The pool calls of the linked library as C calls them: on a table that the caller lends, whatever its words are.
 
 use crate::pool::{Answer, Call, Limits, Txid};
+use crate::template::Asked;
 
 /// Makes a call on a table: the answer, and what it answers beside it, also where it refuses.
 pub fn perform(table: &mut [u64], call: &Call) -> Answer {
@@ -34,6 +35,30 @@ pub fn perform(table: &mut [u64], call: &Call) -> Answer {
     }
 }
 
+/// The template: the answer's number, and how many slots stand at the room's start.
+pub fn template(table: &[u64], asked: &Asked, room: &mut [usize]) -> (u64, usize) {
+    let terms = Terms {
+        budget: asked.budget,
+        reserve: asked.reserve,
+        minimum: asked.minimum,
+    };
+    // SAFETY: as in `perform`; the room alone is written.
+    let reply = unsafe {
+        yaghrudil_pool_template(
+            table.as_ptr(),
+            table.len(),
+            asked.deltas.as_ptr(),
+            asked.deltas.len(),
+            asked.marks.as_ptr(),
+            asked.marks.len(),
+            terms,
+            room.as_mut_ptr(),
+            room.len(),
+        )
+    };
+    (reply.answer, reply.written)
+}
+
 #[repr(C)]
 struct Placed {
     answer: u64,
@@ -51,6 +76,19 @@ struct Totals {
     answer: u64,
     entries: usize,
     weight: u64,
+}
+
+#[repr(C)]
+struct Terms {
+    budget: u64,
+    reserve: u64,
+    minimum: u64,
+}
+
+#[repr(C)]
+struct Reply {
+    answer: u64,
+    written: usize,
 }
 
 extern "C" {
@@ -79,4 +117,16 @@ extern "C" {
     fn yaghrudil_pool_clear(table: *mut u64, table_count: usize) -> u64;
 
     fn yaghrudil_pool_totals(table: *const u64, table_count: usize) -> Totals;
+
+    fn yaghrudil_pool_template(
+        table: *const u64,
+        table_count: usize,
+        deltas: *const i64,
+        deltas_count: usize,
+        marks: *const u8,
+        marks_count: usize,
+        terms: Terms,
+        room: *mut usize,
+        room_count: usize,
+    ) -> Reply;
 }

@@ -34,10 +34,7 @@ impl Ours for Reading {
     }
 
     fn template(&self, asked: &Asked, room: usize) -> Result<Selected, String> {
-        Ok(match select(&self.0, asked, room) {
-            Ok(slots) => (0, slots),
-            Err(number) => (number, Vec::new()),
-        })
+        Ok(read_template(Some(&self.0), asked, room))
     }
 
     fn pool(&self) -> &Pool {
@@ -87,12 +84,46 @@ impl Ours for Library {
         Ok(answer)
     }
 
-    /// The library has no template yet: this one is the reading's.
     fn template(&self, asked: &Asked, room: usize) -> Result<Selected, String> {
-        self.reading.template(asked, room)
+        let expected = self.reading.template(asked, room)?;
+        check_template(&self.table, asked, room, &expected)?;
+        match self.table == self.expected {
+            true => Ok(expected),
+            false => Err("another table in the library after a template".to_string()),
+        }
     }
 
     fn pool(&self) -> &Pool {
         self.reading.pool()
     }
+}
+
+/// What the second reading answers on a table in which it finds this pool, or none.
+pub fn read_template(found: Option<&Pool>, asked: &Asked, room: usize) -> Selected {
+    match found.map_or(Err(12), |pool| select(pool, asked, room)) {
+        Ok(slots) => (0, slots),
+        Err(number) => (number, Vec::new()),
+    }
+}
+
+/// Stands in a room before a call.
+const UNTOUCHED: usize = usize::MAX;
+
+/// Holds a template of the library, on any table, against what it should be: the answer, and all of the room.
+pub fn check_template(
+    table: &[u64],
+    asked: &Asked,
+    room: usize,
+    expected: &Selected,
+) -> Result<(), String> {
+    let mut places = vec![UNTOUCHED; room];
+    let (number, written) = library::template(table, asked, &mut places);
+    let mut expected_places = expected.1.clone();
+    expected_places.resize(room, UNTOUCHED);
+    if (number, written) == (expected.0, expected.1.len()) && places == expected_places {
+        return Ok(());
+    }
+    Err(format!(
+        "the library answers a template with {number} and {written}, {places:?}, the second reading with {expected:?}"
+    ))
 }

@@ -1,16 +1,18 @@
-//! Times of pool calls on both sides: the test of refusal 12 beside the original's template, add and remove.
+//! Times of pool calls on both sides: the test of refusal 12, add, remove and template.
 //!
 //! Every pass runs through many distinct pools, so that no branch predictor learns one of them, and both sides take
 //! turns. Of each call on each pool the least time of all passes counts, in which nothing else ran meanwhile, and a cell
 //! has the median of its pools. What a call is given is made before its time starts: the original's entry and transaction, its set of
-//! parents, our list of them. The original allocates from what earlier calls gave back; ours writes to a table that is
-//! kept.
+//! parents, our list of them. The original allocates from what earlier calls gave back; ours writes to a table and a
+//! room that are kept.
 
+use crate::determined::broken;
 use crate::library;
 use crate::original::graph::{SelectBudget, TxEntry};
 use crate::original_pool::OriginalPool;
 use crate::pool::{words, Call, Limits, Newcomer, Pool, Txid};
 use crate::rng::Rng;
+use crate::template::{chunks, Asked};
 use bitcoin::Transaction;
 use std::collections::BTreeSet;
 use std::hint::black_box;
@@ -108,6 +110,8 @@ fn random_txid(rng: &mut Rng) -> Txid {
 /// One pool on both sides, with an entry that has no children, which is removed and added again.
 struct Case {
     table: Vec<u64>,
+    asked: Asked,
+    room: Vec<usize>,
     add: Call,
     remove: Call,
     original: OriginalPool,
@@ -136,14 +140,23 @@ impl Case {
         let childless: Vec<&Newcomer> = childless.collect();
         let last = childless[rng.index(childless.len())];
         let weight: u64 = list.iter().map(|new| new.weight).sum();
-        let case = Case {
+        let asked = Asked {
+            deltas: vec![0; slots],
+            marks: vec![0; slots],
             // three quarters of the pool, so that chunks are passed over
+            budget: weight / 4 * 3,
+            reserve: 400,
+            minimum: 1_000,
+        };
+        let case = Case {
             budget: SelectBudget {
-                max_weight_wu: weight / 4 * 3,
-                reserved_sigops: 400,
-                min_sat_kvb: 1_000,
+                max_weight_wu: asked.budget,
+                reserved_sigops: asked.reserve,
+                min_sat_kvb: asked.minimum,
             },
             table,
+            asked,
+            room: vec![0; slots],
             add: Call::Add(last.clone()),
             remove: Call::Remove(last.txid),
             txid: bitcoin::Txid(last.txid),
@@ -161,11 +174,19 @@ impl Case {
         case
     }
 
-    /// Both have the same pool.
+    /// Both have the same pool, and select the same where the original's order is determined.
     fn check(&self) {
         let pool = Pool::read(&self.table).expect("a table of the library");
         assert_eq!(self.original.difference(&pool), None);
         assert!(self.original.same_links(&pool));
+        let mut room = self.room.clone();
+        let (number, written) = library::template(&self.table, &self.asked, &mut room);
+        assert_eq!(number, 0);
+        let slots = self.original.template(&pool, &self.asked);
+        let slots = slots.iter().map(|entry| pool.entries[&entry.txid.0].slot);
+        if broken(&pool, &chunks(&pool, &self.asked), true).is_empty() {
+            assert_eq!(room[..written], slots.collect::<Vec<_>>());
+        }
     }
 
     fn original_template(&mut self) {
@@ -188,6 +209,11 @@ impl Case {
         self.original.graph.insert(entry, &self.body);
     }
 
+    fn our_template(&mut self) {
+        let answer = library::template(&self.table, &self.asked, &mut self.room);
+        assert_eq!(answer.0, 0);
+    }
+
     fn call(&mut self, call: fn(&Case) -> &Call) {
         let mut table = std::mem::take(&mut self.table);
         let answer = library::perform(&mut table, call(self));
@@ -206,6 +232,7 @@ fn children(list: &[Newcomer], new: &Newcomer) -> usize {
 enum What {
     OriginalTemplate,
     OriginalCached,
+    OurTemplate,
     OurTest,
     OriginalRemove,
     OurRemove,
@@ -214,7 +241,7 @@ enum What {
     OurAdd,
 }
 
-const MEASURED: usize = 8;
+const MEASURED: usize = 9;
 
 /// For each pool the least nanoseconds that a call on it took.
 struct Times([Vec<f64>; MEASURED]);
@@ -239,6 +266,7 @@ impl Times {
             case.original.graph.invalidate_chunk_cache();
         }
         self.pass(What::OriginalTemplate, cases, Case::original_template);
+        self.pass(What::OurTemplate, cases, Case::our_template);
         self.pass(What::OriginalCached, cases, Case::original_template);
         self.pass(What::OurTest, cases, |case| case.call(|_| &Call::Totals));
         self.pass(What::OriginalRemove, cases, Case::original_remove);
@@ -332,17 +360,26 @@ pub fn bench() {
         println!("|---|--:|--:|{}", "--:|".repeat(columns.len()));
     };
     head(&[
-        "test of 12 µs",
-        "ns an entry",
-        "Rust's template µs",
-        "cached µs",
-        "template / test",
+        "Rust µs",
+        "Rust, cached µs",
+        "ours µs",
+        "ratio",
+        "ratio, cached",
     ]);
     for cell in &cells {
-        let [test, cold, cached] = [What::OurTest, What::OriginalTemplate, What::OriginalCached]
-            .map(|what| cell.time(what));
+        let [cold, cached, ours] = [
+            What::OriginalTemplate,
+            What::OriginalCached,
+            What::OurTemplate,
+        ]
+        .map(|w| cell.time(w));
+        cell.row(&[cold, cached, ours, cold / ours, cached / ours]);
+    }
+    head(&["test of 12 µs", "ns an entry", "Rust's template / test"]);
+    for cell in &cells {
+        let test = cell.time(What::OurTest);
         let each = test * 1_000.0 / cell.entries as f64;
-        cell.row(&[test, each, cold, cached, cold / test]);
+        cell.row(&[test, each, cell.time(What::OriginalTemplate) / test]);
     }
     head(&[
         "Rust: limits µs",

@@ -5,7 +5,7 @@
 
 use crate::determined::{broken, Clause};
 use crate::original_pool::OriginalPool;
-use crate::ours::{Ours, Reading};
+use crate::ours::{Library, Ours};
 use crate::pool::{Call, Limits, Newcomer, Pool, Txid};
 use crate::sketch::entries;
 use crate::template::{chunks, Asked};
@@ -122,7 +122,7 @@ struct Pair {
 
 impl Pair {
     fn new(newcomers: [Newcomer; 2], outputs: usize) -> Self {
-        let mut ours = Reading::made(2, LIMITS);
+        let mut ours = Library::made(2, LIMITS);
         for new in &newcomers {
             let answer = ours.call(&Call::Add(new.clone()));
             assert_eq!(answer.map(|(number, _)| number), Ok(0));

@@ -2,10 +2,12 @@
 //! reading. Where that finds no pool in the table every call has to answer 12 and to leave all lent memory; where it
 //! does the change was legal, and every call has to answer, and to leave the table, as on that pool.
 
-use crate::history::{Known, Plan};
+use crate::history::{asked, Known, Plan};
 use crate::library;
+use crate::ours::{check_template, read_template};
 use crate::pool::{words, Call, Pool, CHILDREN, HEADER, MOST_FEE, PARENTS, ROW};
 use crate::rng::Rng;
+use crate::template::Asked;
 use std::collections::BTreeMap;
 use std::fmt;
 use std::time::Instant;
@@ -84,7 +86,7 @@ impl Kind {
     }
 }
 
-/// A pool that stands, and its table.
+/// A pool that stands, its table, and what is asked of its damaged tables.
 struct Valid {
     plan: Plan,
     pool: Pool,
@@ -92,6 +94,7 @@ struct Valid {
     known: Known,
     taken: Vec<usize>,
     free: Vec<usize>,
+    asked: Asked,
 }
 
 impl Valid {
@@ -116,6 +119,7 @@ impl Valid {
             .filter(|slot| !taken.contains(slot))
             .collect();
         Valid {
+            asked: asked(&pool, rng),
             plan,
             pool,
             table,
@@ -155,6 +159,10 @@ impl Valid {
             let number = check_call(&table, found.as_ref(), call).map_err(told)?;
             *tally.answers.entry(number).or_default() += 1;
         }
+        let (asked, room) = self.asked_anyhow(rng);
+        let expected = read_template(found.as_ref(), &asked, room);
+        check_template(&table, &asked, room, &expected).map_err(told)?;
+        *tally.templates.entry(expected.0).or_default() += 1;
         Ok(())
     }
 
@@ -255,6 +263,27 @@ impl Valid {
         table[3] = others.wrapping_add(table[at]);
         Some(table)
     }
+
+    /// What a template is asked with, of which a part may be wrong as well.
+    fn asked_anyhow(&self, rng: &mut Rng) -> (Asked, usize) {
+        let mut asked = self.asked.clone();
+        let mut room = self.pool.slots;
+        let slot = rng.index(self.pool.slots);
+        for _ in 0..rng.pick(&[0, 0, 1, 2]) {
+            match rng.below(6) {
+                0 => drop(asked.deltas.pop()),
+                1 => asked.deltas.push(0),
+                2 => drop(asked.marks.pop()),
+                3 => asked.marks.push(0),
+                4 => room = rng.index(self.pool.entries.len() + 1),
+                _ if slot < asked.deltas.len() => {
+                    asked.deltas[slot] = rng.pick(&[MOST_FEE as i64 + 1, i64::MIN]);
+                }
+                _ => {}
+            }
+        }
+        (asked, room)
+    }
 }
 
 fn make_call(pool: &mut Pool, known: &mut Known, call: &Call) {
@@ -303,8 +332,9 @@ struct Tally {
     valid: u64,
     most_slots: usize,
     kinds: BTreeMap<Kind, Count>,
-    /// Calls by the number that they answer.
+    /// Calls by the number that they answer, and templates.
     answers: BTreeMap<u64, u64>,
+    templates: BTreeMap<u64, u64>,
 }
 
 impl Tally {
@@ -344,6 +374,7 @@ impl fmt::Display for Tally {
                 count.all, count.legal
             )?;
         }
-        write!(f, "calls by answer: {:?}", self.answers)
+        writeln!(f, "calls by answer: {:?}", self.answers)?;
+        write!(f, "templates by answer: {:?}", self.templates)
     }
 }
