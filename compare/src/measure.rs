@@ -171,3 +171,24 @@ pub fn bench() {
     println!("\n{CLUSTERS} clusters a cell, seed {SEED}, medians of {ROUNDS} rounds in which both sides take turns.");
     println!("Ours writes to buffers that earlier calls used; the Rust allocates from what earlier calls gave back.");
 }
+
+/// The places of the cells whose names start with one of the words; without words all.
+pub fn chosen<C>(
+    words: &[&str],
+    cells: &[C],
+    name: impl Fn(&C) -> String,
+) -> Result<Vec<usize>, String> {
+    let names: Vec<String> = cells.iter().map(name).collect();
+    let starts = |name: &String, word: &str| name.starts_with(word);
+    for word in words {
+        if !names.iter().any(|name| starts(name, word)) {
+            return Err(format!(
+                "no cell's name starts with {word}: there are {}",
+                names.join(", ")
+            ));
+        }
+    }
+    let wanted =
+        |at: &usize| words.is_empty() || words.iter().any(|word| starts(&names[*at], word));
+    Ok((0..cells.len()).filter(wanted).collect())
+}

@@ -8,6 +8,7 @@
 
 use crate::determined::broken;
 use crate::library;
+use crate::measure::chosen;
 use crate::original::graph::{SelectBudget, TxEntry};
 use crate::original_pool::OriginalPool;
 use crate::pool::{words, Call, Limits, Newcomer, Pool, Txid};
@@ -44,6 +45,15 @@ impl Shape {
     const ALL: [Shape; 4] = [Shape::Single, Shape::Chains, Shape::Small, Shape::Large];
 
     fn name(self) -> &'static str {
+        match self {
+            Shape::Single => "single",
+            Shape::Chains => "chains",
+            Shape::Small => "small",
+            Shape::Large => "large",
+        }
+    }
+
+    fn title(self) -> &'static str {
         match self {
             Shape::Single => "all single",
             Shape::Chains => "chains of 64",
@@ -288,20 +298,55 @@ impl Times {
     }
 }
 
-/// The medians over the pools of a cell.
+/// What is measured together: pools of one shape, with so many entries in a table of so many slots.
+#[derive(Clone, Copy)]
 struct Cell {
     shape: Shape,
     entries: usize,
     slots: usize,
-    times: [f64; MEASURED],
 }
 
 impl Cell {
-    fn measured(shape: Shape, entries: usize, slots: usize, rng: &mut Rng) -> Cell {
+    fn all() -> Vec<Cell> {
+        let full = |shape| {
+            [16, 128, 1_000].map(|entries| Cell {
+                shape,
+                entries,
+                slots: entries,
+            })
+        };
+        let largest = [16, 128, 1_000, 1_024].map(|entries| Cell {
+            shape: Shape::Small,
+            entries,
+            slots: 1_024,
+        });
+        Shape::ALL
+            .into_iter()
+            .flat_map(full)
+            .chain(largest)
+            .collect()
+    }
+
+    /// The name by which it is asked for.
+    fn name(self) -> String {
+        let Cell {
+            shape,
+            entries,
+            slots,
+        } = self;
+        match slots == entries {
+            true => format!("{}-{entries}", shape.name()),
+            false => format!("{}-{entries}-{slots}", shape.name()),
+        }
+    }
+
+    /// Its medians over its pools, which are the same whatever other cells are measured.
+    fn measured(self, seed: u64) -> Row {
+        let rng = &mut Rng::new(seed);
         let [few, many] = POOLS;
-        let pools = (ENTRIES / entries).min(WORDS / words(slots));
+        let pools = (ENTRIES / self.entries).min(WORDS / words(self.slots));
         let mut cases: Vec<Case> = (0..pools.clamp(few, many))
-            .map(|_| Case::new(shape, entries, slots, rng))
+            .map(|_| Case::new(self.shape, self.entries, self.slots, rng))
             .collect();
         let start = Instant::now();
         let mut times = Times::new(cases.len());
@@ -313,26 +358,32 @@ impl Cell {
         for case in &cases {
             case.check();
         }
-        Cell {
-            shape,
-            entries,
-            slots,
+        Row {
+            cell: self,
             times: times.medians(),
         }
     }
+}
 
+/// A cell with its medians.
+struct Row {
+    cell: Cell,
+    times: [f64; MEASURED],
+}
+
+impl Row {
     /// Microseconds.
     fn time(&self, what: What) -> f64 {
         self.times[what as usize] / 1_000.0
     }
 
-    fn row(&self, values: &[f64]) {
-        let mut line = format!(
-            "| {} | {} | {} |",
-            self.shape.name(),
-            self.entries,
-            self.slots
-        );
+    fn print(&self, values: &[f64]) {
+        let Cell {
+            shape,
+            entries,
+            slots,
+        } = self.cell;
+        let mut line = format!("| {} | {entries} | {slots} |", shape.title());
         for value in values {
             line += &match *value {
                 small if small < 100.0 => format!(" {small:.2} |"),
@@ -343,45 +394,56 @@ impl Cell {
     }
 }
 
-/// The tables; the same pools for both sides.
-pub fn bench() {
-    let mut rng = Rng::new(SEED);
-    let mut cells = Vec::new();
-    for shape in Shape::ALL {
-        for entries in [16, 128, 1_000] {
-            cells.push(Cell::measured(shape, entries, entries, &mut rng));
-        }
-    }
-    for entries in [16, 128, 1_000, 1_024] {
-        cells.push(Cell::measured(Shape::Small, entries, 1_024, &mut rng));
-    }
-    let head = |columns: &[&str]| {
-        println!("\n| shape | entries | slots | {} |", columns.join(" | "));
-        println!("|---|--:|--:|{}", "--:|".repeat(columns.len()));
-    };
-    head(&[
+/// The tables, of the cells whose names start with one of the words, or of all; the same pools for both sides.
+pub fn bench(asked: &[&str]) -> Result<(), String> {
+    let all = Cell::all();
+    let chosen = chosen(asked, &all, |cell| cell.name())?;
+    let rows: Vec<Row> = chosen
+        .into_iter()
+        .map(|at| all[at].measured(SEED + at as u64))
+        .collect();
+    print_templates(&rows);
+    print_tests(&rows);
+    print_changes(&rows);
+    println!("\nSeed {SEED}; medians over pools of the least of at least {ROUNDS} times; both sides take turns.");
+    Ok(())
+}
+
+fn print_head(columns: &[&str]) {
+    println!("\n| shape | entries | slots | {} |", columns.join(" | "));
+    println!("|---|--:|--:|{}", "--:|".repeat(columns.len()));
+}
+
+fn print_templates(rows: &[Row]) {
+    print_head(&[
         "Rust µs",
         "Rust, cached µs",
         "ours µs",
         "ratio",
         "ratio, cached",
     ]);
-    for cell in &cells {
-        let [cold, cached, ours] = [
+    for row in rows {
+        let measured = [
             What::OriginalTemplate,
             What::OriginalCached,
             What::OurTemplate,
-        ]
-        .map(|w| cell.time(w));
-        cell.row(&[cold, cached, ours, cold / ours, cached / ours]);
+        ];
+        let [cold, cached, ours] = measured.map(|what| row.time(what));
+        row.print(&[cold, cached, ours, cold / ours, cached / ours]);
     }
-    head(&["test of 12 µs", "ns an entry", "Rust's template / test"]);
-    for cell in &cells {
-        let test = cell.time(What::OurTest);
-        let each = test * 1_000.0 / cell.entries as f64;
-        cell.row(&[test, each, cell.time(What::OriginalTemplate) / test]);
+}
+
+fn print_tests(rows: &[Row]) {
+    print_head(&["test of 12 µs", "ns an entry", "Rust's template / test"]);
+    for row in rows {
+        let test = row.time(What::OurTest);
+        let each = test * 1_000.0 / row.cell.entries as f64;
+        row.print(&[test, each, row.time(What::OriginalTemplate) / test]);
     }
-    head(&[
+}
+
+fn print_changes(rows: &[Row]) {
+    print_head(&[
         "Rust: limits µs",
         "insert µs",
         "our add µs",
@@ -390,11 +452,11 @@ pub fn bench() {
         "our remove µs",
         "ratio",
     ]);
-    for cell in &cells {
-        let [limits, insert, add] =
-            [What::OriginalLimits, What::OriginalInsert, What::OurAdd].map(|what| cell.time(what));
-        let [remove, ours] = [What::OriginalRemove, What::OurRemove].map(|what| cell.time(what));
-        cell.row(&[
+    for row in rows {
+        let measured = [What::OriginalLimits, What::OriginalInsert, What::OurAdd];
+        let [limits, insert, add] = measured.map(|what| row.time(what));
+        let [remove, ours] = [What::OriginalRemove, What::OurRemove].map(|what| row.time(what));
+        row.print(&[
             limits,
             insert,
             add,
@@ -404,5 +466,4 @@ pub fn bench() {
             remove / ours,
         ]);
     }
-    println!("\nSeed {SEED}; medians over pools of the least of at least {ROUNDS} times; both sides take turns.");
 }
