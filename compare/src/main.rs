@@ -42,9 +42,9 @@ use std::process::ExitCode;
 
 const USAGE: &str = "\
 compare run [--seed S] [--clusters N]   compare the library with the original on good and bad inputs
-compare bench                           print a table of times
-compare pool-bench [CELL..]             print tables of times of a pool's calls, of all cells or of those whose names
-                                        start with a word, as single-16, chains-128, small, large-1000, small-16-1024
+compare bench [CELL..]                  print tables of times of a cluster's calls: of all cells, or of those that are
+                                        named, as chain-8, or parents for all of its sizes
+compare pool-bench [CELL..]             the same of a pool's calls: single-16, chains-128, small-16-1024, large
 compare worst [--seconds S]             search for the clusters with the smallest gain
 compare wrong [--tries N]               search for the smallest cluster that tells each wrong program from the right one
 compare replay DIR                      write cases and answers, as stdin and stdout, to a folder
@@ -82,10 +82,7 @@ fn perform(words: &[&str]) -> Result<(), String> {
             )?;
             run::run(seed, clusters)
         }
-        ["bench"] => {
-            measure::bench();
-            Ok(())
-        }
+        ["bench", cells @ ..] => measure::bench(cells),
         ["pool-bench", cells @ ..] => pool_measure::bench(cells),
         ["worst", options @ ..] => {
             let [seconds] = numbers(options, [("--seconds", 60)])?;
