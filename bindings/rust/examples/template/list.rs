@@ -97,6 +97,17 @@ impl Line<'_> {
     }
 }
 
+/// The text of a file; where it is none, the line is named on which that shows.
+pub fn text(bytes: Vec<u8>) -> Result<String, Wrong> {
+    String::from_utf8(bytes).map_err(|error| {
+        let good = &error.as_bytes()[..error.utf8_error().valid_up_to()];
+        Wrong {
+            line: 1 + good.iter().filter(|byte| **byte == b'\n').count(),
+            what: "this line is not text (UTF-8)".into(),
+        }
+    })
+}
+
 /// Reads a list.
 pub fn read(text: &str) -> Result<List, Wrong> {
     let lines = lines_of(text);

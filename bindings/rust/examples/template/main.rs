@@ -13,7 +13,7 @@ mod table;
 #[cfg(test)]
 mod tests;
 
-use std::io::Read;
+use std::io::{Read, Write};
 use std::process::ExitCode;
 use std::{env, fs, io};
 
@@ -35,9 +35,10 @@ fn main() -> ExitCode {
 
 fn run(list: &str, picture: Option<&String>) -> Result<(), String> {
     let name = if list == "-" { "standard input" } else { list };
-    let text = read(list).map_err(|error| format!("{name}: {error}"))?;
-    let (tables, svg) = answer(&text).map_err(|wrong| format!("{name}:{wrong}"))?;
-    print!("{tables}");
+    let bytes = read(list).map_err(|error| format!("{name}: {error}"))?;
+    let (tables, svg) = answer(bytes).map_err(|wrong| format!("{name}:{wrong}"))?;
+    let printed = io::stdout().write_all(tables.as_bytes());
+    printed.map_err(|error| format!("standard output: {error}"))?;
     if let Some(path) = picture {
         fs::write(path, svg).map_err(|error| format!("{path}: {error}"))?;
         eprintln!("the diagram is in {path}");
@@ -45,18 +46,18 @@ fn run(list: &str, picture: Option<&String>) -> Result<(), String> {
     Ok(())
 }
 
-fn read(list: &str) -> io::Result<String> {
+fn read(list: &str) -> io::Result<Vec<u8>> {
     if list != "-" {
-        return fs::read_to_string(list);
+        return fs::read(list);
     }
-    let mut text = String::new();
-    io::stdin().read_to_string(&mut text)?;
-    Ok(text)
+    let mut bytes = vec![];
+    io::stdin().read_to_end(&mut bytes)?;
+    Ok(bytes)
 }
 
 /// The tables and the picture.
-fn answer(text: &str) -> Result<(String, String), list::Wrong> {
-    let list = list::read(text)?;
+fn answer(bytes: Vec<u8>) -> Result<(String, String), list::Wrong> {
+    let list = list::read(&list::text(bytes)?)?;
     let block = block::fill(&list)?;
     let tables = format!(
         "{}\n\n{}",

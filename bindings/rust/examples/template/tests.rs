@@ -40,7 +40,7 @@ fn selected(lines: &[&str]) -> Vec<usize> {
 
 #[test]
 fn the_sample_is_as_stored() {
-    let (tables, svg) = answer(SAMPLE).unwrap();
+    let (tables, svg) = answer(SAMPLE.into()).unwrap();
     assert_eq!(tables, include_str!("block.txt"));
     assert_eq!(svg, include_str!("block.svg"));
 }
@@ -103,10 +103,16 @@ fn bad_lines_are_named() {
             "what it depends on leads back to itself",
         ),
     ] {
-        let wrong = answer(&text(lines)).expect_err(what);
+        let wrong = answer(text(lines).into()).expect_err(what);
         assert_eq!(wrong.line, line, "{what}");
         assert!(wrong.what.starts_with(what), "{} is not {what}", wrong.what);
     }
+}
+
+#[test]
+fn a_line_that_is_no_text_is_named() {
+    let wrong = answer(b"# good\n# \xff\n".to_vec()).unwrap_err();
+    assert_eq!(wrong.to_string(), "2: this line is not text (UTF-8)");
 }
 
 #[test]
@@ -189,7 +195,7 @@ fn each_reason_is_given() {
 
 #[test]
 fn an_empty_list_is_an_empty_block() {
-    let (tables, svg) = answer("# nothing\n").unwrap();
+    let (tables, svg) = answer("# nothing\n".into()).unwrap();
     assert!(tables.starts_with("0 of 0 transactions in 0 chunks, weight 0 of 3,992,000,"));
     assert!(svg.ends_with("</svg>\n"));
     assert!(!svg.contains("NaN"));
