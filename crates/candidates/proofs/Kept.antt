@@ -67,12 +67,12 @@ module _
       keeps-append i (length (remainingAncestors n anc i out)) out
       (elem-below (λ a. not (elem a out)) n i (ap (elem i) e ∙ best-elem above (x ∷ xs) i refl) .0) p
 
-  pub keeps-rounds : (fs : List ℤ) (ss : List ℕ) (k : ℕ) (out : List ℕ) → P out → P (rounds fs ss n anc k out)
+  pub keeps-rounds : (fs : List ℤ) (ss : List ℕ) (desc : ℕ → ℕ → Bool) (k : ℕ) (out : List ℕ) → P out → P (rounds fs ss n anc desc k out)
   unfolding rounds candidate
-  keeps-rounds fs ss zero out p = p
-  keeps-rounds fs ss (suc k) out p =
-      keeps-rounds fs ss k (appendFor n anc out (candidate fs ss n anc out))
-      (for (ranksAbove (ancestorSum fs ss n anc out)) out (remaining n out) refl p)
+  keeps-rounds fs ss desc zero out p = p
+  keeps-rounds fs ss desc (suc k) out p =
+      keeps-rounds fs ss desc k (appendFor n anc out (candidate fs ss n anc desc out))
+      (for (ranksAbove (ancestorSum fs ss n anc desc out)) out (remaining n out) refl p)
 
 -- ---- all members
 
@@ -95,33 +95,33 @@ module _ (n : ℕ) (anc : ℕ → ℕ → Bool) where
       subst (λ (o : List ℕ). missing n (appendAncestors n anc i (length xs) (out ++ o)) < missing n out) (sym next)
       (omega (arith, missing-snoc n out t (f .below) (f .new), less))
 
-  module _ (self : (i : ℕ) → i < n → anc i i ≡ true) (fs : List ℤ) (ss : List ℕ) where
+  module _ (self : (i : ℕ) → i < n → anc i i ≡ true) (fs : List ℤ) (ss : List ℕ) (desc : ℕ → ℕ → Bool) where
     -- while a member is left, a round leaves fewer
     round-less : (out l : List ℕ) → remaining n out ≡ l → (l ≡ [] → ⊥)
-        → missing n (appendFor n anc out (best (ranksAbove (ancestorSum fs ss n anc out)) l)) < missing n out
+        → missing n (appendFor n anc out (best (ranksAbove (ancestorSum fs ss n anc desc out)) l)) < missing n out
     unfolding appendFor best remaining remainingAncestors
     round-less out [] e m = absurd (m refl)
     round-less out (x ∷ xs) e m =
-        let above = ranksAbove (ancestorSum fs ss n anc out) in
+        let above = ranksAbove (ancestorSum fs ss n anc desc out) in
         let i = scan above x xs in
         let p = elem-below (λ a. not (elem a out)) n i (ap (elem i) e ∙ best-elem above (x ∷ xs) i refl) in
         append-less i out (remainingAncestors n anc i out) (p .0) refl
         (elem-in (λ a. anc i a && not (elem a out)) n 0 i (omega arith) (omega (arith, p .0)) ∙ ap₂ _&&_ (self i (p .0)) (p .1))
 
     more : (k : ℕ) (out : List ℕ) → missing n out ≤ suc k → (l : List ℕ) → remaining n out ≡ l
-        → (let next = appendFor n anc out (candidate fs ss n anc out) in missing n next ≤ k → remaining n (rounds fs ss n anc k next) ≡ [])
-        → remaining n (rounds fs ss n anc (suc k) out) ≡ []
+        → (let next = appendFor n anc out (candidate fs ss n anc desc out) in missing n next ≤ k → remaining n (rounds fs ss n anc desc k next) ≡ [])
+        → remaining n (rounds fs ss n anc desc (suc k) out) ≡ []
     unfolding rounds candidate
-    more k out h [] e ih = ap (remaining n) (rounds-none fs ss n anc (suc k) out e) ∙ e
+    more k out h [] e ih = ap (remaining n) (rounds-none fs ss n anc desc (suc k) out e) ∙ e
     more k out h (x ∷ xs) e ih =
         let less = round-less out (remaining n out) refl (λ z. let b : _≡_ {A = ℕ} 0 1 = cc in omega arith) in
         ih (omega arith)
 
     -- as many rounds as members are left are enough
-    pub rounds-all : (k : ℕ) (out : List ℕ) → missing n out ≤ k → remaining n (rounds fs ss n anc k out) ≡ []
+    pub rounds-all : (k : ℕ) (out : List ℕ) → missing n out ≤ k → remaining n (rounds fs ss n anc desc k out) ≡ []
     unfolding rounds candidate remaining
     rounds-all zero out h = length-nil (remaining n out) (omega (arith, count-list (λ i. not (elem i out)) n 0))
-    rounds-all (suc k) out h = more k out h (remaining n out) refl (rounds-all k (appendFor n anc out (candidate fs ss n anc out)))
+    rounds-all (suc k) out h = more k out h (remaining n out) refl (rounds-all k (appendFor n anc out (candidate fs ss n anc desc out)))
 
 -- ---- ancestors first
 

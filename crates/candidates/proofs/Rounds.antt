@@ -21,21 +21,21 @@ use Rattle.feeset.specs.Total.{total}
 use Rattle.feeset.specs.Scan.{best, ranksAbove}
 use Rattle.candidates.specs.Candidates.{givenBack, ancestorSum, remaining, candidate, remainingAncestors, fewerAncestors}
 use Rattle.candidates.specs.Candidates.{appendAncestors, appendFor, rounds, ancestorOrder, fits, written, filled}
-use Rattle.candidates.specs.Steps.{ancestorIn, fewerIn, sorted, Turned, GaveBack, Appended}
+use Rattle.candidates.specs.Steps.{ancestorIn, fewerIn, sorted, GaveBack, Appended}
 use Rattle.lists.proofs.Bools.{and-left}
 use Rattle.lists.proofs.Lists.{without-append}
 use Rattle.lists.proofs.Ranges.{list-below, count-below, count-parts}
 use Rattle.feeset.proofs.Scan.{best-ext}
-use Rattle.candidates.proofs.Sums.{back-append, back-ext}
+use Rattle.candidates.proofs.Sums.{back-append}
 
 -- all members are out: nothing more is taken
-pub rounds-none : (fs : List ℤ) (ss : List ℕ) (n : ℕ) (anc : ℕ → ℕ → Bool) (k : ℕ) (out : List ℕ) → remaining n out ≡ []
-    → rounds fs ss n anc k out ≡ out
+pub rounds-none : (fs : List ℤ) (ss : List ℕ) (n : ℕ) (anc desc : ℕ → ℕ → Bool) (k : ℕ) (out : List ℕ) → remaining n out ≡ []
+    → rounds fs ss n anc desc k out ≡ out
 unfolding rounds candidate appendFor best
-rounds-none fs ss n anc zero out e = refl
-rounds-none fs ss n anc (suc k) out e =
-    ap (λ (l : List ℕ). rounds fs ss n anc k (appendFor n anc out (best (ranksAbove (ancestorSum fs ss n anc out)) l))) e
-    ∙ rounds-none fs ss n anc k out e
+rounds-none fs ss n anc desc zero out e = refl
+rounds-none fs ss n anc desc (suc k) out e =
+    ap (λ (l : List ℕ). rounds fs ss n anc desc k (appendFor n anc out (best (ranksAbove (ancestorSum fs ss n anc desc out)) l))) e
+    ∙ rounds-none fs ss n anc desc k out e
 
 -- the members are the first n positions, and the sets are given by words
 module _ (ws : List ℕ) (n : ℕ) (few : n ≤ positions) (all : TxSet) (full : (i : ℕ) → mem all i ≡ (isPosition i && ltb i n)) where
@@ -66,7 +66,7 @@ module _ (ws : List ℕ) (n : ℕ) (few : n ≤ positions) (all : TxSet) (full :
 -- the loop of `ancestor_order`: `out` are out, in their order, at the start of `order`, and `todo` are left
 pub record Taking
     (fs : List ℤ)
-    (ss ws : List ℕ)
+    (ss ws ds : List ℕ)
     (n : ℕ)
     (room order : List ℕ)
     (sum-fees : List ℤ)
@@ -74,12 +74,12 @@ pub record Taking
     (todo : TxSet)
     (len round : ℕ) : Type 0 where
   pub out : List ℕ
-  pub goes : rounds fs ss n (memAt ws) (n - round) out ≡ rounds fs ss n (memAt ws) n []
+  pub goes : rounds fs ss n (memAt ws) (memAt ds) (n - round) out ≡ rounds fs ss n (memAt ws) (memAt ds) n []
   pub upto : round ≤ n
   pub count : len ≡ length out
   pub sum : len + size todo ≤ n
   pub left : (i : ℕ) → mem todo i ≡ (ltb i n && not (elem i out))
-  pub sums : (i : ℕ) → mem todo i ≡ true → rateAt sum-fees sum-sizes i ≡ ancestorSum fs ss n (memAt ws) out i
+  pub sums : (i : ℕ) → mem todo i ≡ true → rateAt sum-fees sum-sizes i ≡ ancestorSum fs ss n (memAt ws) (memAt ds) out i
   pub fees : length sum-fees ≡ positions
   pub sizes : length sum-sizes ≡ positions
   pub are : order ≡ out ++ drop len room
@@ -87,7 +87,7 @@ pub record Taking
 
 module _
     (fs : List ℤ)
-    (ss ws : List ℕ)
+    (ss ws ds : List ℕ)
     (n : ℕ)
     (few : n ≤ positions)
     (all : TxSet)
@@ -96,11 +96,11 @@ module _
   -- at first nothing is out
   pub take-start : (sum-fees : List ℤ) (sum-sizes : List ℕ) → length sum-fees ≡ positions → length sum-sizes ≡ positions
       → ((i : ℕ) → i < n → rateAt sum-fees sum-sizes i ≡ total fs ss (listFrom (ancestorIn ws all i) positions 0))
-      → Taking fs ss ws n room room sum-fees sum-sizes all 0 0
+      → Taking fs ss ws ds n room room sum-fees sum-sizes all 0 0
   unfolding ancestorSum givenBack elem anyOf
   take-start sum-fees sum-sizes a b e = record {
     out = [];
-    goes = ap (λ (k : ℕ). rounds fs ss n (memAt ws) k []) (omega arith);
+    goes = ap (λ (k : ℕ). rounds fs ss n (memAt ws) (memAt ds) k []) (omega arith);
     upto = omega arith;
     count = refl;
     sum = omega (arith, size-all ws n few all full);
@@ -118,28 +118,28 @@ module _
       (sum-sizes : List ℕ)
       (todo : TxSet)
       (len round : ℕ)
-      (h : Taking fs ss ws n room order sum-fees sum-sizes todo len round) where
+      (h : Taking fs ss ws ds n room order sum-fees sum-sizes todo len round) where
     -- what is left is what remains
     todo-members : members todo ≡ remaining n (h .out)
     unfolding members remaining
     todo-members = list-below (mem todo) (λ i. not (elem i (h .out))) n positions few (h .left)
 
     -- after n rounds, or when nothing is left, all that is to be taken is out
-    pub take-stop : n ≤ round → h .out ≡ rounds fs ss n (memAt ws) n []
+    pub take-stop : n ≤ round → h .out ≡ rounds fs ss n (memAt ws) (memAt ds) n []
     unfolding rounds
-    take-stop l = let e : n - round ≡ 0 = omega arith in ap (λ (k : ℕ). rounds fs ss n (memAt ws) k (h .out)) (sym e) ∙ h .goes
+    take-stop l = let e : n - round ≡ 0 = omega arith in ap (λ (k : ℕ). rounds fs ss n (memAt ws) (memAt ds) k (h .out)) (sym e) ∙ h .goes
 
-    pub take-empty : isEmpty todo ≡ true → h .out ≡ rounds fs ss n (memAt ws) n []
-    take-empty e = sym (rounds-none fs ss n (memAt ws) (n - round) (h .out) (sym todo-members ∙ walk-done todo e)) ∙ h .goes
+    pub take-empty : isEmpty todo ≡ true → h .out ≡ rounds fs ss n (memAt ws) (memAt ds) n []
+    take-empty e = sym (rounds-none fs ss n (memAt ws) (memAt ds) (n - round) (h .out) (sym todo-members ∙ walk-done todo e)) ∙ h .goes
 
     -- the candidate of the definition is that of the code
-    candidate-is : candidate fs ss n (memAt ws) (h .out) ≡ best (ranksAbove (rateAt sum-fees sum-sizes)) (members todo)
+    candidate-is : candidate fs ss n (memAt ws) (memAt ds) (h .out) ≡ best (ranksAbove (rateAt sum-fees sum-sizes)) (members todo)
     unfolding candidate ranksAbove
     candidate-is =
-        ap (best (ranksAbove (ancestorSum fs ss n (memAt ws) (h .out)))) (sym todo-members)
+        ap (best (ranksAbove (ancestorSum fs ss n (memAt ws) (memAt ds) (h .out)))) (sym todo-members)
         ∙ best-ext _ _ (members todo) (λ x y p q. ap₂ (λ (a b : FeeFrac). isGreater (rankOrder a b)) (sym (sum-of x p)) (sym (sum-of y q)))
       where
-        sum-of : (x : ℕ) → elem x (members todo) ≡ true → rateAt sum-fees sum-sizes x ≡ ancestorSum fs ss n (memAt ws) (h .out) x
+        sum-of : (x : ℕ) → elem x (members todo) ≡ true → rateAt sum-fees sum-sizes x ≡ ancestorSum fs ss n (memAt ws) (memAt ds) (h .out) x
         sum-of x p = h .sums x (sym (members-elem todo x) ∙ p)
 
     -- t is taken: `at` is its set, `some` its ancestors that are left, and `rest` what is left without them
@@ -181,7 +181,7 @@ module _
           ∙ ap (λ (l : List ℕ). ltb a n && (memAt ws t a && not (elem a l))) (append-nil (h .out)))
 
       -- so a round appends them
-      appended : appendFor n (memAt ws) (h .out) (candidate fs ss n (memAt ws) (h .out)) ≡ h .out ++ sorted (fewerIn ws all) (mem some) (size some) []
+      appended : appendFor n (memAt ws) (h .out) (candidate fs ss n (memAt ws) (memAt ds) (h .out)) ≡ h .out ++ sorted (fewerIn ws all) (mem some) (size some) []
       unfolding appendFor
       appended =
           ap (appendFor n (memAt ws) (h .out)) (candidate-is ∙ best-is)
@@ -231,19 +231,18 @@ module _
             ∙ ap (λ (k : ℕ). drop k room) d
 
         -- one round
-        pub take-turn : (below : List ℕ) → Turned ws n below
-            → (sum-fees' : List ℤ) (sum-sizes' : List ℕ) → length sum-fees' ≡ positions → length sum-sizes' ≡ positions → round < n
-            → GaveBack fs ss below rest (take (end - len) (drop len last)) (rateAt sum-fees sum-sizes) (rateAt sum-fees' sum-sizes')
-            → Taking fs ss ws n room last sum-fees' sum-sizes' rest end (round + 1)
+        pub take-turn : (sum-fees' : List ℤ) (sum-sizes' : List ℕ) → length sum-fees' ≡ positions → length sum-sizes' ≡ positions → round < n
+            → GaveBack fs ss ds rest (take (end - len) (drop len last)) (rateAt sum-fees sum-sizes) (rateAt sum-fees' sum-sizes')
+            → Taking fs ss ws ds n room last sum-fees' sum-sizes' rest end (round + 1)
         unfolding ancestorSum rounds new
-        take-turn below turned sum-fees' sum-sizes' a b l back =
+        take-turn sum-fees' sum-sizes' a b l back =
             let many : length new ≡ size some = app .many in
             let next : n - round ≡ suc (n - (round + 1)) = omega arith in
             record {
               out = h .out ++ new;
               goes =
-                  ap (rounds fs ss n (memAt ws) (n - (round + 1))) (sym appended)
-                  ∙ ap (λ (k : ℕ). rounds fs ss n (memAt ws) k (h .out)) (sym next)
+                  ap (rounds fs ss n (memAt ws) (memAt ds) (n - (round + 1))) (sym appended)
+                  ∙ ap (λ (k : ℕ). rounds fs ss n (memAt ws) (memAt ds) k (h .out)) (sym next)
                   ∙ h .goes;
               upto = omega arith;
               count = rw length-append (omega (arith, app .ends, h .count));
@@ -252,9 +251,8 @@ module _
                   without i ∙ ap₂ (λ (b c : Bool). b && not c) (h .left i) (sym (app .holds i)) ∙ without-append (ltb i n) i (h .out) new;
               sums = λ i m.
                   back i m
-                  ∙ back-ext fs ss (λ t. mem (setAt below t) i) (memAt ws i) (below-is i m) (rateAt sum-fees sum-sizes i) (take (end - len) (drop len last))
-                  ∙ ap₂ (givenBack fs ss (memAt ws i)) (h .sums i (was-left i m)) gone-is
-                  ∙ sym (back-append fs ss (memAt ws i) (total fs ss (listFrom (memAt ws i) n 0)) (h .out) new);
+                  ∙ ap₂ (givenBack fs ss (λ t. memAt ds t i)) (h .sums i (was-left i m)) gone-is
+                  ∙ sym (back-append fs ss (λ t. memAt ds t i) (total fs ss (listFrom (memAt ws i) n 0)) (h .out) new);
               fees = a;
               sizes = b;
               are =
@@ -265,19 +263,13 @@ module _
             was-left : (i : ℕ) → mem rest i ≡ true → mem todo i ≡ true
             was-left i m = and-left (mem todo i) (not (mem some i)) (sym (without i) ∙ m)
 
-            -- a member is below its ancestors
-            below-is : (i : ℕ) → mem rest i ≡ true → (t : ℕ) → mem (setAt below t) i ≡ memAt ws i t
-            below-is i m t =
-                turned t i
-                ∙ ap (λ (b : Bool). b && memAt ws i t) (and-left (ltb i n) (not (elem i (h .out))) (sym (h .left i) ∙ was-left i m))
-
 -- ---- what the function promises
 
 -- too many members, or too few places: nothing is written
-pub unfit : (fs : List ℤ) (ss : List ℕ) (a : ℕ → ℕ → Bool) (room : List ℕ) → fits fs room ≡ false
-    → (0 ≡ written fs ss a room) × (room ≡ filled fs ss a room)
+pub unfit : (fs : List ℤ) (ss : List ℕ) (a d : ℕ → ℕ → Bool) (room : List ℕ) → fits fs room ≡ false
+    → (0 ≡ written fs ss a d room) × (room ≡ filled fs ss a d room)
 unfolding written filled
-unfit fs ss a room e = (rw e, rw e)
+unfit fs ss a d room e = (rw e, rw e)
 
 pub many-unfit : (fs : List ℤ) (room : List ℕ) → positions < length fs → fits fs room ≡ false
 unfolding fits
@@ -288,9 +280,10 @@ unfolding fits
 narrow-unfit fs room l = rw (lt-leb (length fs) (length room) l) (and-false (leb (length fs) positions))
 
 -- else all that was taken
-pub fit : {fs : List ℤ} {ss ws room order : List ℕ} {sum-fees : List ℤ} {sum-sizes : List ℕ} {todo : TxSet} {len round : ℕ}
-    → (h : Taking fs ss ws (length fs) room order sum-fees sum-sizes todo len round) → length fs ≤ positions → length fs ≤ length room
-    → h .out ≡ rounds fs ss (length fs) (memAt ws) (length fs) [] → (len ≡ written fs ss (memAt ws) room) × (order ≡ filled fs ss (memAt ws) room)
+pub fit : {fs : List ℤ} {ss ws ds room order : List ℕ} {sum-fees : List ℤ} {sum-sizes : List ℕ} {todo : TxSet} {len round : ℕ}
+    → (h : Taking fs ss ws ds (length fs) room order sum-fees sum-sizes todo len round) → length fs ≤ positions → length fs ≤ length room
+    → h .out ≡ rounds fs ss (length fs) (memAt ws) (memAt ds) (length fs) []
+    → (len ≡ written fs ss (memAt ws) (memAt ds) room) × (order ≡ filled fs ss (memAt ws) (memAt ds) room)
 unfolding written filled fits ancestorOrder
 fit {fs} {room = room} {len = len} h a b e =
     let t : (leb (length fs) positions && leb (length fs) (length room)) ≡ true =

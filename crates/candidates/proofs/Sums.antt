@@ -67,15 +67,6 @@ module _ (fs : List ℤ) (ss : List ℕ) (isAnc : ℕ → Bool) where
   unfolding givenBack
   back-next acc now rate gone k b l r is e = rw (add-one, drop-cons gone k 0 l, e, r, is)
 
-  -- the same for a test that answers the same
-  pub back-ext : (other : ℕ → Bool) → ((t : ℕ) → isAnc t ≡ other t) → (acc : FeeFrac) (gone : List ℕ)
-      → givenBack fs ss isAnc acc gone ≡ givenBack fs ss other acc gone
-  unfolding givenBack
-  back-ext other e acc [] = refl
-  back-ext other e acc (t ∷ ts) =
-      ap (λ (b : Bool). givenBack fs ss isAnc (cond b (difference acc (rateAt fs ss t)) acc) ts) (e t)
-      ∙ back-ext other e (cond (other t) (difference acc (rateAt fs ss t)) acc) ts
-
   -- none is left
   pub back-none : (acc : FeeFrac) (gone : List ℕ) (k : ℕ) → length gone ≤ k → givenBack fs ss isAnc acc (drop k gone) ≡ acc
   unfolding givenBack

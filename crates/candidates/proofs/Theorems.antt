@@ -1,5 +1,5 @@
 -- What the order of specs/Candidates.antt is, for readers: each member once, and after its ancestors. Then what the sums are that it goes by.
--- `fs` are the fees of the members, `ss` their sizes, and `anc i a` says that a is an ancestor of i. Assumes nothing.
+-- `fs` are the fees of the members, `ss` their sizes, and `anc i a` says that a is an ancestor of i and `desc a i` that i is a descendant of a. Assumes nothing.
 use mathlib.Core.Path.{_≡_, refl, sym, ap, ap₂, _∙_}
 use mathlib.Core.Bool.{Bool, true, false, cond, not, _&&_, and-true, or-comm}
 use mathlib.Core.List.{List, [], _∷_, _++_}
@@ -25,49 +25,49 @@ use Rattle.candidates.proofs.Kept.{next-fresh, keeps-rounds, rounds-all
 use Rattle.lists.proofs.Once.{all-there, Once, once-none, once-more, once-missing}
 use Rattle.txset.specs.Sets.{positions}
 
-module _ (fs : List ℤ) (ss : List ℕ) (anc : ℕ → ℕ → Bool) where
-  taken : Once (length fs) (ancestorOrder fs ss anc)
+module _ (fs : List ℤ) (ss : List ℕ) (anc desc : ℕ → ℕ → Bool) where
+  taken : Once (length fs) (ancestorOrder fs ss anc desc)
   unfolding ancestorOrder
   taken =
       let n = length fs in
       keeps-rounds n anc (Once n)
       (λ i out t l e h. let f = next-fresh n anc i out t e in once-more n out t (f .below) (f .new) h)
-      fs ss n [] (once-none n)
+      fs ss desc n [] (once-none n)
 
   -- each element is a member
-  pub each-below : (i : ℕ) → elem i (ancestorOrder fs ss anc) ≡ true → i < length fs
+  pub each-below : (i : ℕ) → elem i (ancestorOrder fs ss anc desc) ≡ true → i < length fs
   each-below = taken .below
 
   -- no element comes twice
-  pub none-twice : distinct (ancestorOrder fs ss anc) ≡ true
+  pub none-twice : distinct (ancestorOrder fs ss anc desc) ≡ true
   none-twice = taken .once
 
   -- where each member is among its ancestors
   module _ (self : (i : ℕ) → i < length fs → anc i i ≡ true) where
-    none-left : remaining (length fs) (ancestorOrder fs ss anc) ≡ []
+    none-left : remaining (length fs) (ancestorOrder fs ss anc desc) ≡ []
     unfolding ancestorOrder
-    none-left = rounds-all (length fs) anc self fs ss (length fs) [] (count-le (λ i. not (elem i [])) (length fs) 0)
+    none-left = rounds-all (length fs) anc self fs ss desc (length fs) [] (count-le (λ i. not (elem i [])) (length fs) 0)
 
     -- each member is an element
-    pub every-member : (i : ℕ) → i < length fs → elem i (ancestorOrder fs ss anc) ≡ true
+    pub every-member : (i : ℕ) → i < length fs → elem i (ancestorOrder fs ss anc desc) ≡ true
     unfolding remaining elem anyOf
     every-member i l =
-        let out = ancestorOrder fs ss anc in
+        let out = ancestorOrder fs ss anc desc in
         not-false (elem i out)
         (sym (elem-in (λ i. not (elem i out)) (length fs) 0 i (omega arith) (omega arith)) ∙ ap (elem i) none-left)
 
     -- there are as many elements as members
-    pub as-many : length (ancestorOrder fs ss anc) ≡ length fs
-    as-many = let out = ancestorOrder fs ss anc in omega (arith, once-missing (length fs) out taken, all-there (length fs) out every-member)
+    pub as-many : length (ancestorOrder fs ss anc desc) ≡ length fs
+    as-many = let out = ancestorOrder fs ss anc desc in omega (arith, once-missing (length fs) out taken, all-there (length fs) out every-member)
 
   -- where an ancestor's ancestors are ancestors, and an ancestor has fewer of them: every element comes after its ancestors
   pub after-ancestors :
       ((i a b : ℕ) → i < length fs → a < length fs → b < length fs → anc i a ≡ true → anc a b ≡ true → anc i b ≡ true)
       → ((i a : ℕ) → i < length fs → a < length fs → anc i a ≡ true → (a ≡ i → ⊥) → countFrom (anc a) (length fs) 0 < countFrom (anc i) (length fs) 0)
-      → (xs ys : List ℕ) (i a : ℕ) → ancestorOrder fs ss anc ≡ xs ++ (i ∷ ys) → a < length fs → anc i a ≡ true → (a ≡ i → ⊥) → elem a xs ≡ true
+      → (xs ys : List ℕ) (i a : ℕ) → ancestorOrder fs ss anc desc ≡ xs ++ (i ∷ ys) → a < length fs → anc i a ≡ true → (a ≡ i → ⊥) → elem a xs ≡ true
   unfolding ancestorOrder
   after-ancestors through fewer =
-      keeps-rounds (length fs) anc (After (length fs) anc) (after-more (length fs) anc through fewer) fs ss (length fs) [] (after-none (length fs) anc)
+      keeps-rounds (length fs) anc (After (length fs) anc) (after-more (length fs) anc through fewer) fs ss desc (length fs) [] (after-none (length fs) anc)
 
 -- ---- the sums, with members already out given back
 
@@ -166,7 +166,7 @@ module _ (fs : List ℤ) (ss : List ℕ) (isAnc : ℕ → Bool) where
 
 -- the size of an ancestor sum is that of all the ancestors, held at 2^64 - 1, less that of those that are out, and 0 where that is more
 pub sum-size : (fs : List ℤ) (ss : List ℕ) (n : ℕ) (anc : ℕ → ℕ → Bool) (out : List ℕ) (i : ℕ)
-    → ancestorSum fs ss n anc out i .size
+    → ancestorSum fs ss n anc (λ t i. anc i t) out i .size
     ≡ heldSize (sumOf (sizesAt ss (listFrom (anc i) n 0))) - sumOf (sizesAt ss (only (anc i) out))
 unfolding ancestorSum
 sum-size fs ss n anc out i =
@@ -214,7 +214,7 @@ module _
 
     -- fees within the limits, at most 64 members: the fee is, as an integer, that of all the ancestors less that of those that are out, and
     -- is never held at an end
-    pub sum-fee : ancestorSum fs ss n anc out i .fee ≡ exactSum (feesAt fs (listFrom (anc i) n 0)) -ℤ exactSum (feesAt fs (only (anc i) out))
+    pub sum-fee : ancestorSum fs ss n anc (λ t i. anc i t) out i .fee ≡ exactSum (feesAt fs (listFrom (anc i) n 0)) -ℤ exactSum (feesAt fs (only (anc i) out))
     unfolding ancestorSum ancestors gone
     sum-fee =
         let e : total fs ss ancestors .fee ≡ exactSum (feesAt fs ancestors) = total-fee fs ss within ancestors few-ancestors in
@@ -223,7 +223,7 @@ module _
         ∙ ap (λ (z : ℤ). z -ℤ exactSum (feesAt fs gone)) e
 
     -- so it is the exact sum of the fees of the ancestors that are left
-    pub sum-fee-left : ancestorSum fs ss n anc out i .fee ≡ exactSum (feesAt fs (remainingAncestors n anc i out))
+    pub sum-fee-left : ancestorSum fs ss n anc (λ t i. anc i t) out i .fee ≡ exactSum (feesAt fs (remainingAncestors n anc i out))
     unfolding ancestors gone
     sum-fee-left =
         sum-fee
@@ -233,20 +233,20 @@ module _
 
   -- the size is the exact sum of the sizes of the ancestors that are left, where those of all the ancestors are not held
   pub sum-size-left : sumOf (sizesAt ss (listFrom (anc i) n 0)) ≤ 18446744073709551615
-      → ancestorSum fs ss n anc out i .size ≡ sumOf (sizesAt ss (remainingAncestors n anc i out))
+      → ancestorSum fs ss n anc (λ t i. anc i t) out i .size ≡ sumOf (sizesAt ss (remainingAncestors n anc i out))
   unfolding ancestors gone
   sum-size-left h = omega (arith, sum-size fs ss n anc out i, sizes-parts)
 
 -- these are the sums that are compared: what is out after k rounds are members, none of them twice
 module _ (fs : List ℤ) (ss : List ℕ) (anc : ℕ → ℕ → Bool) (k i : ℕ) where
-  outs : Once (length fs) (rounds fs ss (length fs) anc k [])
+  outs : Once (length fs) (rounds fs ss (length fs) anc (λ t i. anc i t) k [])
   outs =
       let n = length fs in
       keeps-rounds n anc (Once n)
       (λ i out t l e h. let f = next-fresh n anc i out t e in once-more n out t (f .below) (f .new) h)
-      fs ss k [] (once-none n)
+      fs ss (λ t i. anc i t) k [] (once-none n)
 
   -- in each round every sum's fee is the exact sum of the fees of the ancestors that are left
-  pub round-fee : length fs ≤ positions → Within fs → (let out = rounds fs ss (length fs) anc k [] in
-      ancestorSum fs ss (length fs) anc out i .fee ≡ exactSum (feesAt fs (remainingAncestors (length fs) anc i out)))
-  round-fee few within = sum-fee-left fs ss (length fs) anc (rounds fs ss (length fs) anc k []) i (outs .once) (outs .below) few within
+  pub round-fee : length fs ≤ positions → Within fs → (let out = rounds fs ss (length fs) anc (λ t i. anc i t) k [] in
+      ancestorSum fs ss (length fs) anc (λ t i. anc i t) out i .fee ≡ exactSum (feesAt fs (remainingAncestors (length fs) anc i out)))
+  round-fee few within = sum-fee-left fs ss (length fs) anc (rounds fs ss (length fs) anc (λ t i. anc i t) k []) i (outs .once) (outs .below) few within

@@ -1,5 +1,5 @@
--- Document 01, module 6 (linearize), up to the post pass. `n` is the number of members, `anc i a` says that a is an ancestor of i, and
--- `out` lists the members already out, in their order. Assumes nothing.
+-- Document 01, module 6 (linearize), up to the post pass. `n` is the number of members, `anc i a` says that a is an ancestor of i,
+-- `desc t i` that i is a descendant of t, and `out` lists the members already out, in their order. Assumes nothing.
 use Prim.Native.Nat.{ℕ, zero, suc}
 use mathlib.Core.Bool.{Bool, cond, not, _&&_}
 use mathlib.Core.List.{List, [], _∷_, _++_}
@@ -19,17 +19,17 @@ unfoldable pub givenBack : List ℤ → List ℕ → (ℕ → Bool) → FeeFrac 
 givenBack fs ss isAnc acc [] = acc
 givenBack fs ss isAnc acc (t ∷ ts) = givenBack fs ss isAnc (cond (isAnc t) (difference acc (rateAt fs ss t)) acc) ts
 
--- "[its] ancestor sum, with members already out given back"
-unfoldable pub ancestorSum : List ℤ → List ℕ → ℕ → (ℕ → ℕ → Bool) → List ℕ → ℕ → FeeFrac
-ancestorSum fs ss n anc out i = givenBack fs ss (anc i) (total fs ss (listFrom (anc i) n 0)) out
+-- "[its] ancestor sum, with members already out given back": each of them to its descendants
+unfoldable pub ancestorSum : List ℤ → List ℕ → ℕ → (ℕ → ℕ → Bool) → (ℕ → ℕ → Bool) → List ℕ → ℕ → FeeFrac
+ancestorSum fs ss n anc desc out i = givenBack fs ss (λ t. desc t i) (total fs ss (listFrom (anc i) n 0)) out
 
 -- the remaining members, upwards
 unfoldable pub remaining : ℕ → List ℕ → List ℕ
 remaining n out = listFrom (λ i. not (elem i out)) n 0
 
 -- "Take the remaining member whose ancestor sum .. ranks highest"
-unfoldable pub candidate : List ℤ → List ℕ → ℕ → (ℕ → ℕ → Bool) → List ℕ → List ℕ
-candidate fs ss n anc out = best (ranksAbove (ancestorSum fs ss n anc out)) (remaining n out)
+unfoldable pub candidate : List ℤ → List ℕ → ℕ → (ℕ → ℕ → Bool) → (ℕ → ℕ → Bool) → List ℕ → List ℕ
+candidate fs ss n anc desc out = best (ranksAbove (ancestorSum fs ss n anc desc out)) (remaining n out)
 
 -- its remaining ancestors, upwards
 unfoldable pub remainingAncestors : ℕ → (ℕ → ℕ → Bool) → ℕ → List ℕ → List ℕ
@@ -50,13 +50,13 @@ appendFor n anc out [] = out
 appendFor n anc out (i ∷ is) = appendAncestors n anc i (length (remainingAncestors n anc i out)) out
 
 -- "repeat"
-unfoldable pub rounds : List ℤ → List ℕ → ℕ → (ℕ → ℕ → Bool) → ℕ → List ℕ → List ℕ
-rounds fs ss n anc zero out = out
-rounds fs ss n anc (suc k) out = rounds fs ss n anc k (appendFor n anc out (candidate fs ss n anc out))
+unfoldable pub rounds : List ℤ → List ℕ → ℕ → (ℕ → ℕ → Bool) → (ℕ → ℕ → Bool) → ℕ → List ℕ → List ℕ
+rounds fs ss n anc desc zero out = out
+rounds fs ss n anc desc (suc k) out = rounds fs ss n anc desc k (appendFor n anc out (candidate fs ss n anc desc out))
 
 -- each round takes at least one member out, so n rounds are enough
-unfoldable pub ancestorOrder : List ℤ → List ℕ → (ℕ → ℕ → Bool) → List ℕ
-ancestorOrder fs ss anc = rounds fs ss (length fs) anc (length fs) []
+unfoldable pub ancestorOrder : List ℤ → List ℕ → (ℕ → ℕ → Bool) → (ℕ → ℕ → Bool) → List ℕ
+ancestorOrder fs ss anc desc = rounds fs ss (length fs) anc desc (length fs) []
 
 -- ---- what the function between crates promises for any input
 
@@ -64,8 +64,8 @@ ancestorOrder fs ss anc = rounds fs ss (length fs) anc (length fs) []
 unfoldable pub fits : List ℤ → List ℕ → Bool
 fits fs room = leb (length fs) positions && leb (length fs) (length room)
 
-unfoldable pub written : List ℤ → List ℕ → (ℕ → ℕ → Bool) → List ℕ → ℕ
-written fs ss anc room = cond (fits fs room) (length (ancestorOrder fs ss anc)) 0
+unfoldable pub written : List ℤ → List ℕ → (ℕ → ℕ → Bool) → (ℕ → ℕ → Bool) → List ℕ → ℕ
+written fs ss anc desc room = cond (fits fs room) (length (ancestorOrder fs ss anc desc)) 0
 
-unfoldable pub filled : List ℤ → List ℕ → (ℕ → ℕ → Bool) → List ℕ → List ℕ
-filled fs ss anc room = cond (fits fs room) (overwrite (ancestorOrder fs ss anc) room) room
+unfoldable pub filled : List ℤ → List ℕ → (ℕ → ℕ → Bool) → (ℕ → ℕ → Bool) → List ℕ → List ℕ
+filled fs ss anc desc room = cond (fits fs room) (overwrite (ancestorOrder fs ss anc desc) room) room

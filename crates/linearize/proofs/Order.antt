@@ -32,26 +32,26 @@ nothing-behind {n} xs ys e =
 
 module _ (fs : List ℤ) (ss A D order room : List ℕ) (r : Ready fs A order room) where
   -- the candidates fill the list
-  taken : (o : List ℕ) → o ≡ Candidates.filled fs ss (memAt A) order → o ≡ ancestorOrder fs ss (memAt A)
+  taken : (o : List ℕ) → o ≡ Candidates.filled fs ss (memAt A) (memAt D) order → o ≡ ancestorOrder fs ss (memAt A) (memAt D)
   unfolding Candidates.filled Candidates.fits
   taken o e =
-      e ∙ rw (le-leb (length fs) positions (r .few), le-leb (length fs) (length order) (omega (arith, r .long)), as-many fs ss (memAt A) (r .own))
-      (nothing-behind (ancestorOrder fs ss (memAt A)) order (r .long))
+      e ∙ rw (le-leb (length fs) positions (r .few), le-leb (length fs) (length order) (omega (arith, r .long)), as-many fs ss (memAt A) (memAt D) (r .own))
+      (nothing-behind (ancestorOrder fs ss (memAt A) (memAt D)) order (r .long))
 
-  pub steps : (o mid last : List ℕ) (k : ℕ) (out : List ℕ) → o ≡ Candidates.filled fs ss (memAt A) order
+  pub steps : (o mid last : List ℕ) (k : ℕ) (out : List ℕ) → o ≡ Candidates.filled fs ss (memAt A) (memAt D) order
       → mid ≡ cond (leb (length o) positions) (backPass fs ss (memAt D) o) o
       → last ≡ cond (leb (length mid) positions) (forwardPass fs ss (memAt A) mid) mid
       → k ≡ Output.written fs ss (memAt A) last room → out ≡ Output.filled fs ss (memAt A) last room
       → (k ≡ length (stepsOf fs ss (memAt A) (memAt D))) × (out ≡ stepsOf fs ss (memAt A) (memAt D) ++ drop k room)
   unfolding stepsOf Output.written Output.filled Output.fits
   steps o mid last k out e f g h w =
-      let first : o ≡ ancestorOrder fs ss (memAt A) = taken o e in
-      let n1 : length o ≡ length fs = ap length first ∙ as-many fs ss (memAt A) (r .own) in
-      let back : mid ≡ backPass fs ss (memAt D) (ancestorOrder fs ss (memAt A)) = f ∙ rw (le-leb (length o) positions (omega (arith, r .few)), first) in
-      let n2 : length mid ≡ length fs = ap length back ∙ back-same fs ss (memAt D) (ancestorOrder fs ss (memAt A)) .long ∙ as-many fs ss (memAt A) (r .own) in
-      let fore : last ≡ forwardPass fs ss (memAt A) (backPass fs ss (memAt D) (ancestorOrder fs ss (memAt A))) = g ∙ rw (le-leb (length mid) positions (omega (arith, r .few)), back) in
+      let first : o ≡ ancestorOrder fs ss (memAt A) (memAt D) = taken o e in
+      let n1 : length o ≡ length fs = ap length first ∙ as-many fs ss (memAt A) (memAt D) (r .own) in
+      let back : mid ≡ backPass fs ss (memAt D) (ancestorOrder fs ss (memAt A) (memAt D)) = f ∙ rw (le-leb (length o) positions (omega (arith, r .few)), first) in
+      let n2 : length mid ≡ length fs = ap length back ∙ back-same fs ss (memAt D) (ancestorOrder fs ss (memAt A) (memAt D)) .long ∙ as-many fs ss (memAt A) (memAt D) (r .own) in
+      let fore : last ≡ forwardPass fs ss (memAt A) (backPass fs ss (memAt D) (ancestorOrder fs ss (memAt A) (memAt D))) = g ∙ rw (le-leb (length mid) positions (omega (arith, r .few)), back) in
       let n3 : length last ≡ length fs =
-      ap length fore ∙ forward-same fs ss (memAt A) (backPass fs ss (memAt D) (ancestorOrder fs ss (memAt A))) .long ∙ sym (ap length back) ∙ n2 in
+      ap length fore ∙ forward-same fs ss (memAt A) (backPass fs ss (memAt D) (ancestorOrder fs ss (memAt A) (memAt D))) .long ∙ sym (ap length back) ∙ n2 in
       let fit : (leb (length fs) positions && (leb (length last) (length fs) && leb (length fs) (length room))) ≡ true =
       rw (le-leb (length fs) positions (r .few), le-leb (length last) (length fs) (omega arith), le-leb (length fs) (length room) (r .wide)) in
       let long : k ≡ length (outputOrder fs ss (memAt A) last) = h ∙ rw fit in
@@ -71,7 +71,7 @@ ready {fs} {ps} c e h o w = record {
 pub is-linear : (fs : List ℤ) (ss : List ℕ) {ps : List ℕ} {g : DepGraph} → Closed ps g
     → stepsOf fs ss (memAt (g .ancestors)) (memAt (g .descendants)) ≡ linearOrder fs ss ps
 unfolding stepsOf linearOrder postLinearize
-is-linear fs ss c = ap₂ (λ (a d : ℕ → ℕ → Bool). outputOrder fs ss a (forwardPass fs ss a (backPass fs ss d (ancestorOrder fs ss a)))) (ancestors-are c) (descendants-are c)
+is-linear fs ss c = ap₂ (λ (a d : ℕ → ℕ → Bool). outputOrder fs ss a (forwardPass fs ss a (backPass fs ss d (ancestorOrder fs ss a d)))) (ancestors-are c) (descendants-are c)
 
 pub linear-done : (fs : List ℤ) (ss room : List ℕ) {ps : List ℕ} {g : DepGraph} (k : ℕ) (out : List ℕ) → Closed ps g
     → k ≡ length (stepsOf fs ss (memAt (g .ancestors)) (memAt (g .descendants)))

@@ -7,7 +7,7 @@ use native.Mathlib.Omega.{arith}
 use lib.ListN.{length}
 use lib.IntN.{ℤ}
 use Rattle.lists.specs.Lists.{elem, distinct}
-use Rattle.depgraph.specs.Graph.{isAncestor, isCyclic}
+use Rattle.depgraph.specs.Graph.{isAncestor, isDescendant, isCyclic}
 use Rattle.depgraph.proofs.Theorems.{ancestor-refl, ancestor-trans, fewer}
 use Rattle.candidates.specs.Candidates.{ancestorOrder}
 use Rattle.candidates.proofs.Theorems.{each-below, none-twice, every-member, after-ancestors}
@@ -21,38 +21,38 @@ module _ (fs : List ℤ) (ss ps : List ℕ) where
   -- no element is anything but a member, and none comes twice
   pub linear-below : (i : ℕ) → elem i (linearOrder fs ss ps) ≡ true → i < length fs
   unfolding linearOrder
-  linear-below = out-below fs ss (isAncestor ps) (postLinearize fs ss ps (ancestorOrder fs ss (isAncestor ps)))
+  linear-below = out-below fs ss (isAncestor ps) (postLinearize fs ss ps (ancestorOrder fs ss (isAncestor ps) (isDescendant ps)))
 
   pub linear-once : distinct (linearOrder fs ss ps) ≡ true
   unfolding linearOrder
-  linear-once = out-once fs ss (isAncestor ps) (postLinearize fs ss ps (ancestorOrder fs ss (isAncestor ps)))
+  linear-once = out-once fs ss (isAncestor ps) (postLinearize fs ss ps (ancestorOrder fs ss (isAncestor ps) (isDescendant ps)))
 
   -- every member comes after all its ancestors
   pub linear-after : After (length fs) (isAncestor ps) (linearOrder fs ss ps)
   unfolding linearOrder
-  linear-after = out-after fs ss (isAncestor ps) (postLinearize fs ss ps (ancestorOrder fs ss (isAncestor ps)))
+  linear-after = out-after fs ss (isAncestor ps) (postLinearize fs ss ps (ancestorOrder fs ss (isAncestor ps) (isDescendant ps)))
 
   module _ (as-long : length ps ≡ length fs) (acyclic : isCyclic ps ≡ false) where
     self : (i : ℕ) → i < length fs → isAncestor ps i i ≡ true
     self i l = ancestor-refl ps i (omega arith)
 
     -- the order that the passes leave has each member, after its ancestors
-    every : (i : ℕ) → i < length fs → elem i (postLinearize fs ss ps (ancestorOrder fs ss (isAncestor ps))) ≡ true
-    every i l = post-same fs ss ps (ancestorOrder fs ss (isAncestor ps)) .members i ∙ every-member fs ss (isAncestor ps) self i l
+    every : (i : ℕ) → i < length fs → elem i (postLinearize fs ss ps (ancestorOrder fs ss (isAncestor ps) (isDescendant ps))) ≡ true
+    every i l = post-same fs ss ps (ancestorOrder fs ss (isAncestor ps) (isDescendant ps)) .members i ∙ every-member fs ss (isAncestor ps) (isDescendant ps) self i l
 
-    passed : After (length fs) (isAncestor ps) (postLinearize fs ss ps (ancestorOrder fs ss (isAncestor ps)))
+    passed : After (length fs) (isAncestor ps) (postLinearize fs ss ps (ancestorOrder fs ss (isAncestor ps) (isDescendant ps)))
     passed =
-        post-after fs ss ps (ancestorOrder fs ss (isAncestor ps)) (length fs)
-        (every-member fs ss (isAncestor ps) self) (each-below fs ss (isAncestor ps)) (none-twice fs ss (isAncestor ps))
-        (after-ancestors fs ss (isAncestor ps)
+        post-after fs ss ps (ancestorOrder fs ss (isAncestor ps) (isDescendant ps)) (length fs)
+        (every-member fs ss (isAncestor ps) (isDescendant ps) self) (each-below fs ss (isAncestor ps) (isDescendant ps)) (none-twice fs ss (isAncestor ps) (isDescendant ps))
+        (after-ancestors fs ss (isAncestor ps) (isDescendant ps)
         (λ i a b _ _ _ p q. ancestor-trans ps i a b p q)
         (λ i a l m p n. rw (← as-long) (fewer ps i a acyclic p (λ e. n (sym e)))))
 
     -- every member is in the order, so it has as many places as there are members
     pub linear-every : (i : ℕ) → i < length fs → elem i (linearOrder fs ss ps) ≡ true
     unfolding linearOrder
-    linear-every = out-every fs ss (isAncestor ps) (postLinearize fs ss ps (ancestorOrder fs ss (isAncestor ps))) passed every
+    linear-every = out-every fs ss (isAncestor ps) (postLinearize fs ss ps (ancestorOrder fs ss (isAncestor ps) (isDescendant ps))) passed every
 
     pub linear-length : length (linearOrder fs ss ps) ≡ length fs
     unfolding linearOrder
-    linear-length = out-length fs ss (isAncestor ps) (postLinearize fs ss ps (ancestorOrder fs ss (isAncestor ps))) passed every
+    linear-length = out-length fs ss (isAncestor ps) (postLinearize fs ss ps (ancestorOrder fs ss (isAncestor ps) (isDescendant ps))) passed every

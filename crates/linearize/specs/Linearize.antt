@@ -4,7 +4,7 @@ use mathlib.Core.List.{List, [], _∷_}
 use lib.ListN.{length}
 use lib.IntN.{ℤ}
 use Rattle.lists.specs.Lists.{overwrite}
-use Rattle.depgraph.specs.Graph.{isAncestor, isCyclic}
+use Rattle.depgraph.specs.Graph.{isAncestor, isDescendant, isCyclic}
 use Rattle.refusals.specs.declared.Reply.{Reply}
 use Rattle.refusals.specs.Refusals.{Line, line, refusal, success, replyOf, keptUnless, differ₃, tooMany, short, anyOutside}
 use Rattle.candidates.specs.Candidates.{ancestorOrder}
@@ -13,7 +13,7 @@ use Rattle.post_linearize.specs.PostLinearize.{postLinearize}
 
 -- the order of a cluster
 unfoldable pub linearOrder : List ℤ → List ℕ → List ℕ → List ℕ
-linearOrder fs ss ps = outputOrder fs ss (isAncestor ps) (postLinearize fs ss ps (ancestorOrder fs ss (isAncestor ps)))
+linearOrder fs ss ps = outputOrder fs ss (isAncestor ps) (postLinearize fs ss ps (ancestorOrder fs ss (isAncestor ps) (isDescendant ps)))
 
 -- "Orders: clusters 1, 2, 11, 3, 4, 5", of which 5 is for a given order
 unfoldable pub refusals : List ℤ → List ℕ → List ℕ → List ℕ → List Line

@@ -12,7 +12,7 @@ use Rattle.output_order.specs.Output.{outputOrder}
 
 -- the four steps, over any ancestors and descendants
 unfoldable pub stepsOf : List ℤ → List ℕ → (ℕ → ℕ → Bool) → (ℕ → ℕ → Bool) → List ℕ
-stepsOf fs ss anc desc = outputOrder fs ss anc (forwardPass fs ss anc (backPass fs ss desc (ancestorOrder fs ss anc)))
+stepsOf fs ss anc desc = outputOrder fs ss anc (forwardPass fs ss anc (backPass fs ss desc (ancestorOrder fs ss anc desc)))
 
 -- at most 64 members, each its own ancestor, a list as long as they are many and a room at least so
 pub record Ready (fs : List ℤ) (ancestors order room : List ℕ) : Type 0 where

@@ -68,7 +68,7 @@ fn order_members<'g>(
     ensures { λ r. ⌜ r ≡ length (stepsOf (now (fees .entry)) (now (sizes .entry)) (memAt (now (ancestors .entry))) (memAt (now (descendants .entry)))) ⌝ }
     ensures { λ r. ⌜ now (room .exit) ≡ stepsOf (now (fees .entry)) (now (sizes .entry)) (memAt (now (ancestors .entry))) (memAt (now (descendants .entry))) ++ drop r (now (room .entry)) ⌝ }
 {
-    candidates::ancestor_order(fees, sizes, ancestors, order);
+    candidates::ancestor_order(fees, sizes, ancestors, descendants, order);
     passes::back_pass(fees, sizes, descendants, order);
     passes::forward_pass(fees, sizes, ancestors, order);
     output_order::output_order(fees, sizes, ancestors, order, room)
