@@ -2,16 +2,20 @@
 use mathlib.Core.Path.{_≡_, refl, sym, ap, _∙_}
 use mathlib.Core.Bool.{Bool, true, false, cond, not, _&&_}
 use mathlib.Core.List.{List, [], _∷_, _++_}
+use mathlib.Core.Logic.{⊎-elim}
 use Prim.Native.Nat.{ℕ, zero, suc, _≤_, _<_}
 use native.Mathlib.Omega.{arith}
 use lib.Dec.{eqb}
 use borrow.Author.Tests.{eq-eqb, ne-eqb}
 use Rattle.txset.specs.declared.TxSet.{TxSet}
-use Rattle.lists.specs.Below.{keepIf, listFrom}
+use Rattle.lists.specs.Below.{keepIf, listFrom, firstFrom}
 use Rattle.txset.specs.Sets.{positions, mem, members, size, isEmpty, lowestOf}
 use Rattle.lists.specs.Lists.{elem, only}
-use Rattle.lists.proofs.Bools.{and-left}
-use Rattle.lists.proofs.Below.{elem-below}
+use Rattle.lists.proofs.Bools.{clash, and-left}
+use Rattle.lists.proofs.Below.{elem-below, first-is}
+use Rattle.lists.proofs.Lists.{elem-head, elem-tail}
+use Rattle.lists.proofs.Numbers.{lt-or-ge}
+use Rattle.txset.proofs.Sets.{members-elem}
 use Rattle.txset.proofs.Walk.{walk-step, walk-less, walk-done, lowest-position}
 use Rattle.feeset.specs.Scan.{scan, best}
 use Rattle.feeset.proofs.Scan.{best-elem}
@@ -46,11 +50,16 @@ found-one found n = ap (λ (b : Bool). cond b [] (found ∷ [])) (ne-eqb found p
 -- a scan of those of `all` that are ready on its way: what is found, and the set that is left
 pub record Found (above : ℕ → ℕ → Bool) (ready : ℕ → Bool) (all : List ℕ) (found : ℕ) (rest : TxSet) : Type 0 where
   pub small : found ≤ positions
+  pub of : (j : ℕ) → mem rest j ≡ true → elem j all ≡ true
   pub gives : best above (foundOf found ++ only ready (members rest)) ≡ best above (only ready all)
 
 pub found-start : (above : ℕ → ℕ → Bool) (ready : ℕ → Bool) (found : ℕ) (s : TxSet) → found ≡ positions → Found above ready (members s) found s
 found-start above ready found s e =
-    record { small = omega arith; gives = ap (λ (l : List ℕ). best above (l ++ only ready (members s))) (found-none found e) }
+    record {
+      small = omega arith;
+      of = λ j m. members-elem s j ∙ m;
+      gives = ap (λ (l : List ℕ). best above (l ++ only ready (members s))) (found-none found e);
+    }
 
 -- nothing is left: what is found is the best
 pub found-stop : {above : ℕ → ℕ → Bool} {ready : ℕ → Bool} {all : List ℕ} {found : ℕ} {s : TxSet}
@@ -62,6 +71,35 @@ found-stop {above = above} {ready = ready} {found = found} {s = s} h e =
     alone : (b : Bool) → cond b [] (found ∷ []) ≡ best above (cond b [] (found ∷ []) ++ [])
     alone true = refl
     alone false = refl
+
+-- a scan keeps what it has found where nothing to come is above it
+scan-keeps : (above : ℕ → ℕ → Bool) (found : ℕ) (xs : List ℕ) → ((x : ℕ) → elem x xs ≡ true → above x found ≡ false) → scan above found xs ≡ found
+unfolding scan
+scan-keeps above found [] h = refl
+scan-keeps above found (x ∷ xs) h =
+    ap (λ (b : Bool). scan above (cond b x found) xs) (h x (elem-head x xs)) ∙ scan-keeps above found xs (λ i e. h i (elem-tail i x xs e))
+
+-- so what is found is the best
+pub found-early : {above : ℕ → ℕ → Bool} {ready : ℕ → Bool} {all : List ℕ} {found : ℕ} {s : TxSet} → Found above ready all found s
+    → (found ≡ positions → ⊥) → ((j : ℕ) → mem s j ≡ true → above j found ≡ false) → foundOf found ≡ best above (only ready all)
+unfolding best members
+found-early {above} {ready} {all} {found} {s} h n low =
+    let is = found-one found n in
+    let list = only ready (members s) in
+    is
+    ∙ ap (λ (t : ℕ). t ∷ [])
+    (sym (scan-keeps above found list (λ x e.
+    let f : ℕ → Bool = λ j. mem s j && ready j in
+    let in-list : elem x (listFrom f positions 0) ≡ true = ap (elem x) (sym (only-list ready (mem s) positions 0)) ∙ e in
+    low x (and-left (mem s x) (ready x) (elem-below f positions x in-list .1)))))
+    ∙ sym (ap (λ (l : List ℕ). best above (l ++ list)) is)
+    ∙ h .gives
+
+-- the lowest of a set is at or below each of it
+pub lowest-least : (s : TxSet) (j : ℕ) → mem s j ≡ true → lowestOf s ≤ j
+unfolding lowestOf
+lowest-least s j m =
+    ⊎-elim (λ l. clash m (first-is (mem s) positions 0 .before j (omega arith) l)) (λ l. l) (lt-or-ge j (firstFrom (mem s) positions 0))
 
 -- t is what is left of s without its lowest, i
 pub record Next (s t : TxSet) (i : ℕ) : Type 0 where
@@ -93,14 +131,18 @@ module _
       ∙ ap (λ (l : List ℕ). best above (foundOf found ++ only ready l)) (sym (walk-step s t (w .rest) (w .left)))
       ∙ h .gives
 
+  kept : (j : ℕ) → mem t j ≡ true → elem j all ≡ true
+  kept j m = h .of j (and-left (mem s j) (not (eqb j (lowestOf s))) (sym (w .rest j) ∙ m))
+
   -- one that is not ready is passed over
   pub found-skip : ready i ≡ false → Found above ready all found t
-  found-skip e = record { small = h .small; gives = step false e }
+  found-skip e = record { small = h .small; of = kept; gives = step false e }
 
   -- the first that is ready is found
   pub found-first : ready i ≡ true → found ≡ positions → Found above ready all i t
   found-first e z = record {
     small = omega (arith, next-position w);
+    of = kept;
     gives =
         ap (λ (l : List ℕ). best above (l ++ only ready (members t))) (found-one i (λ q. omega (arith, next-position w)))
         ∙ sym (ap (λ (l : List ℕ). best above (l ++ i ∷ only ready (members t))) (found-none found z))
@@ -118,7 +160,7 @@ module _
 
   -- what is found yields to one that is above it, and to no other
   pub found-yields : ready i ≡ true → (found ≡ positions → ⊥) → above i found ≡ true → Found above ready all i t
-  found-yields e n a = record { small = omega (arith, next-position w); gives = turn true a e n (λ q. omega (arith, next-position w)) }
+  found-yields e n a = record { small = omega (arith, next-position w); of = kept; gives = turn true a e n (λ q. omega (arith, next-position w)) }
 
   pub found-keeps : ready i ≡ true → (found ≡ positions → ⊥) → above i found ≡ false → Found above ready all found t
-  found-keeps e n a = record { small = h .small; gives = turn false a e n n }
+  found-keeps e n a = record { small = h .small; of = kept; gives = turn false a e n n }

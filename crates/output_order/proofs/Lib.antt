@@ -1,5 +1,6 @@
 pub mod Choices
 pub mod Cutting
+pub mod Falling
 pub mod Putting
 pub mod Ready
 pub mod Rounds

@@ -8,12 +8,13 @@ use native.Mathlib.Omega.{arith}
 use lib.Dec.{eqb, ltb}
 use borrow.Author.Tests.{lt-ltb, le-ltb, ltb-true, not-true}
 use Rattle.txset.specs.declared.TxSet.{TxSet}
-use Rattle.lists.specs.Below.{anyFrom, allFrom, firstFrom}
+use Rattle.lists.specs.Below.{allFrom}
 use Rattle.lists.specs.Lists.{elem}
 use Rattle.txset.specs.Sets.{positions, mem, isSubset, setAt, memAt}
 use Rattle.lists.proofs.Numbers.{lt-or-ge}
-use Rattle.lists.proofs.Below.{any-at, all-ext, all-at, at-all, first-has, first-below}
-use Rattle.lists.proofs.Bools.{implies, true-together}
+use Rattle.lists.proofs.Below.{all-ext, all-at, at-all}
+use Rattle.lists.proofs.Bools.{clash, is-true, is-false, implies, true-together}
+use Rattle.lists.proofs.Lists.{any-none, none-any}
 use Rattle.txset.proofs.Sets.{subset-mem, mem-subset}
 use Rattle.output_order.specs.Output.{chunkReady, memberReady}
 use Rattle.output_order.specs.Steps.{All, needed}
@@ -87,25 +88,30 @@ module _ (n : ℕ) (done : TxSet) (out : List ℕ) (member : (i : ℕ) → mem d
       each t = not (elem t c) || allFrom (has t) n 0
 
       asks : ℕ → ℕ → Bool
-      asks a t = elem t c && anc t a
+      asks a t = ltb t n && anc t a
 
       out-of : isSubset o done ≡ true → (t a : ℕ) → t < 0 + n → a < 0 + n → elem t c ≡ true → anc t a ≡ true
           → (b : Bool) → elem a c ≡ b → (b || elem a out) ≡ true
       out-of h t a l m tc ta true e = refl
       out-of h t a l m tc ta false e =
+          let some : needed n anc c a ≡ true =
+          is-true (needed n anc c a) (λ none. clash (ap₂ _&&_ (lt-ltb t n (omega arith)) ta) (any-none (asks a) c none t tc)) in
           sym (member a)
           ∙ subset-mem o done h a
-          (outside a ∙ ap₂ _&&_ (lt-ltb a n (omega arith)) (ap₂ _&&_ (any-at (asks a) n 0 t (omega arith) l (ap₂ _&&_ tc ta)) (ap not e)))
+          (outside a ∙ ap₂ _&&_ (lt-ltb a n (omega arith)) (ap₂ _&&_ some (ap not e)))
 
-      in-out : chunkReady n anc out c ≡ true → (a : ℕ) → (ltb a n && (anyFrom (asks a) n 0 && not (elem a c))) ≡ true → elem a out ≡ true
+      in-out : chunkReady n anc out c ≡ true → (a : ℕ) → (ltb a n && (needed n anc c a && not (elem a c))) ≡ true → elem a out ≡ true
       in-out h a e =
-          let parts = and-eq-true-iff (ltb a n) (anyFrom (asks a) n 0 && not (elem a c)) .0 e in
-          let rest = and-eq-true-iff (anyFrom (asks a) n 0) (not (elem a c)) .0 (parts .1) in
-          let t = firstFrom (asks a) n 0 in
-          let ta = and-eq-true-iff (elem t c) (anc t a) .0 (first-has (asks a) n 0 (rest .0)) in
+          let parts = and-eq-true-iff (ltb a n) (needed n anc c a && not (elem a c)) .0 e in
+          let rest = and-eq-true-iff (needed n anc c a) (not (elem a c)) .0 (parts .1) in
+          let small = ltb-true a n (parts .0) in
+          is-true (elem a out) (λ no.
+          clash (rest .0)
+          (none-any (asks a) c (λ t tc.
+          is-false (asks a t) (λ ta.
+          let both = and-eq-true-iff (ltb t n) (anc t a) .0 ta in
           let all : allFrom (has t) n 0 ≡ true =
-          imp-elim (elem t c) (allFrom (has t) n 0) (all-at each n 0 h t (omega arith) (first-below (asks a) n 0 (rest .0))) (ta .0) in
-          ap (λ (b : Bool). b || elem a out) (sym (not-true (elem a c) (rest .1)))
-          ∙ imp-elim (anc t a) (elem a c || elem a out)
-          (all-at (has t) n 0 all a (omega arith) (omega (arith, ltb-true a n (parts .0))))
-          (ta .1)
+          imp-elim (elem t c) (allFrom (has t) n 0) (all-at each n 0 h t (omega arith) (omega (arith, ltb-true t n (both .0)))) tc in
+          clash
+          (imp-elim (anc t a) (elem a c || elem a out) (all-at (has t) n 0 all a (omega arith) (omega arith)) (both .1))
+          (ap₂ _||_ (not-true (elem a c) (rest .1)) no)))))

@@ -6,24 +6,28 @@ use Prim.Native.Nat.{ℕ, zero, suc, _+_, _-_, _≤_, _<_}
 use native.Mathlib.Omega.{arith}
 use lib.Dec.{eqb, ltb, leb}
 use lib.IntN.{ℤ}
-use lib.ListN.{length, drop}
+use lib.ListN.{length, drop, getD}
 use borrow.Author.Tests.{ltb-true, le-leb, lt-leb}
+use Rattle.feefrac.specs.Rate.{rankOrder, sizeOrder, thenBy, isGreater, rateAt, higher}
+use Rattle.feefrac.specs.declared.Ordering.{Ordering}
+use Rattle.feefrac.proofs.Order.{rate-below}
+use Rattle.feefrac.proofs.Higher.{higher-one}
 use Rattle.txset.specs.declared.TxSet.{TxSet}
 use Rattle.lists.specs.Below.{listFrom}
 use Rattle.lists.specs.Lists.{anyOf, elem, overwrite}
-use Rattle.txset.specs.Sets.{positions, isPosition, mem, members, setAt, memAt}
+use Rattle.txset.specs.Sets.{positions, isPosition, mem, members, isEmpty, lowestOf, setAt, memAt}
 use Rattle.lists.proofs.Bools.{clash, without-or, cases}
 use Rattle.lists.proofs.Ranges.{list-below}
 use Rattle.lists.proofs.Below.{elem-below}
-use Rattle.txset.proofs.Walk.{size-empty}
-use Rattle.txset.proofs.Sets.{mem-empty, full-mem}
+use Rattle.txset.proofs.Walk.{size-empty, lowest-position}
+use Rattle.txset.proofs.Sets.{mem-empty, full-mem, members-elem}
 use Rattle.feeset.specs.Scan.{best}
 use Rattle.feeset.proofs.Scan.{best-ext}
 use Rattle.chunking.specs.Orders.{chunksOf, chunkAt}
-use Rattle.output_order.specs.Output.{chunkAbove, chunkReady, inside, putOut, nextChunk, chunksOut, outputOrder, fits, written, filled}
-use Rattle.output_order.specs.Steps.{All, Cut, Surveyed}
-use Rattle.output_order.specs.Rounds.{sumAbove, covered, chunkOf, Standing, Placed, Put}
-use Rattle.output_order.proofs.Choices.{only-list, best-mem}
+use Rattle.output_order.specs.Output.{chunkRate, chunkAbove, chunkReady, inside, putOut, nextChunk, chunksOut, outputOrder, fits, written, filled}
+use Rattle.output_order.specs.Steps.{All, Cut, Below, Drops}
+use Rattle.output_order.specs.Rounds.{foundOf, sumAbove, covered, chunkOf, Standing, Placed, Put}
+use Rattle.output_order.proofs.Choices.{only-list, best-mem, Found, found-early, lowest-least}
 use Rattle.output_order.proofs.Ready.{covered-ready}
 
 -- ---- the definition, by what is chosen
@@ -83,21 +87,43 @@ module _ (fs : List ℤ) (ss : List ℕ) (anc : ℕ → ℕ → Bool) (order roo
               ∙ sym (ap (λ (b : Bool). cond b (overwrite (outputOrder fs ss anc order) room) room) yes),
         )
 
+-- ---- the scan of the chunks
+
+-- one that is lower is not above
+lower : (sumFees : List ℤ) (sumSizes tops : List ℕ) (j k : ℕ) → higher (rateAt sumFees sumSizes k) (rateAt sumFees sumSizes j) ≡ true
+    → sumAbove sumFees sumSizes tops j k ≡ false
+unfolding sumAbove rankOrder
+lower sumFees sumSizes tops j k e =
+    let a = rateAt sumFees sumSizes j in
+    let b = rateAt sumFees sumSizes k in
+    ap (λ (o : Ordering). isGreater (thenBy (thenBy o (sizeOrder (b .size) (a .size))) (sizeOrder (getD tops k 0) (getD tops j 0))))
+    (rate-below a b (higher-one b a e) e)
+
+-- what is found stands before a drop: it is the one
+pub found-drop : (outsides : List ℕ) (sumFees : List ℤ) (sumSizes tops : List ℕ) {left drops : TxSet} (done : TxSet) {s : TxSet} {found k : ℕ}
+    → Found (sumAbove sumFees sumSizes tops) (covered outsides done) (members left) found s → Below (rateAt sumFees sumSizes) left drops
+    → isEmpty s ≡ false → k ≡ lowestOf s → found < k → mem drops k ≡ true → foundOf found ≡ chunkOf outsides sumFees sumSizes tops left done
+found-drop outsides sumFees sumSizes tops {left} done {s} {found} {k} h below some is l m =
+    found-early h (λ e. omega (arith, lowest-position s some)) (λ j e.
+    lower sumFees sumSizes tops j found
+    (below .falls found k j m l (omega (arith, lowest-least s j e)) (sym (members-elem left j) ∙ h .of j e)))
+
 -- ---- the loop
 
 -- what is known of the chunks before the first is put out
-pub record Known (fs : List ℤ) (ss ancestors order : List ℕ) (all : TxSet) (sets tops : List ℕ) (r : ℕ)
-    (outsides : List ℕ) (sumFees : List ℤ) (sumSizes : List ℕ) : Type 0 where
+pub record Known (fs : List ℤ) (ss ancestors order : List ℕ) (all : TxSet) (sets outsides tops : List ℕ) (sumFees : List ℤ) (sumSizes : List ℕ) (r : ℕ)
+    (drops : TxSet) : Type 0 where
   pub whole : All (length fs) all
-  pub chunks : Cut (length fs) (chunksOf fs ss order) sets tops r
-  pub survey : Surveyed fs ss (length fs) (memAt ancestors) (chunksOf fs ss order) outsides sumFees sumSizes r
+  pub chunks : Cut (length fs) (memAt ancestors) (chunksOf fs ss order) sets outsides tops r
+  pub rates : (k : ℕ) → k < r → rateAt sumFees sumSizes k ≡ chunkRate fs ss (length fs) (chunkAt (chunksOf fs ss order) k)
+  pub falling : Drops (rateAt sumFees sumSizes) r drops
   pub short : length order ≤ length fs
   pub long : length tops ≡ positions
 
 -- after `round` rounds: which chunks are gone, and what is out
-pub record Rounds (fs : List ℤ) (ss ancestors order room₀ : List ℕ) (all : TxSet) (sets tops : List ℕ) (r : ℕ)
-    (outsides : List ℕ) (sumFees : List ℤ) (sumSizes : List ℕ) (room : List ℕ) (left done : TxSet) (len round : ℕ) : Type 0 where
-  pub known : Known fs ss ancestors order all sets tops r outsides sumFees sumSizes
+pub record Rounds (fs : List ℤ) (ss ancestors order room₀ : List ℕ) (all : TxSet) (sets outsides tops : List ℕ) (sumFees : List ℤ) (sumSizes : List ℕ)
+    (r : ℕ) (drops : TxSet) (room : List ℕ) (left done : TxSet) (len round : ℕ) : Type 0 where
+  pub known : Known fs ss ancestors order all sets outsides tops sumFees sumSizes r drops
   pub gone : List ℕ
   pub out : List ℕ
   pub within : round ≤ r
@@ -110,10 +136,10 @@ pub record Rounds (fs : List ℤ) (ss ancestors order room₀ : List ℕ) (all :
 pub full-all : {n : ℕ} {s : TxSet} → n ≤ positions → ((i : ℕ) → mem s i ≡ (isPosition i && ltb i n)) → All n s
 full-all {n} {s} h full = record { few = h; are = full-mem n s h full }
 
-pub rounds-start : {fs : List ℤ} {ss ancestors order : List ℕ} {all : TxSet} {sets tops : List ℕ} {r : ℕ}
-    {outsides : List ℕ} {sumFees : List ℤ} {sumSizes : List ℕ} (room : List ℕ) (left done : TxSet) → Known fs ss ancestors order all sets tops r outsides sumFees sumSizes → length fs ≤ length room
+pub rounds-start : {fs : List ℤ} {ss ancestors order : List ℕ} {all : TxSet} {sets outsides tops : List ℕ} {sumFees : List ℤ}
+    {sumSizes : List ℕ} {r : ℕ} {drops : TxSet} (room : List ℕ) (left done : TxSet) → Known fs ss ancestors order all sets outsides tops sumFees sumSizes r drops → length fs ≤ length room
     → All r left → ((i : ℕ) → mem done i ≡ false)
-    → Rounds fs ss ancestors order room all sets tops r outsides sumFees sumSizes room left done 0 0
+    → Rounds fs ss ancestors order room all sets outsides tops sumFees sumSizes r drops room left done 0 0
 unfolding outputOrder elem anyOf
 rounds-start {fs} {ss} {ancestors} {order} {r = r} room left done h place full none = record {
   known = h;
@@ -132,16 +158,16 @@ rounds-start {fs} {ss} {ancestors} {order} {r = r} room left done h place full n
       ap (λ (m : ℕ). chunksOut fs ss (length fs) (memAt ancestors) (chunksOf fs ss order) m [] []) e;
 }
 
-module _ {fs : List ℤ} {ss ancestors order room₀ : List ℕ} {all : TxSet} {sets tops : List ℕ} {r : ℕ}
-    {outsides : List ℕ} {sumFees : List ℤ} {sumSizes : List ℕ} {room : List ℕ} {left done : TxSet} {len round : ℕ}
-    (p : Rounds fs ss ancestors order room₀ all sets tops r outsides sumFees sumSizes room left done len round) where
+module _ {fs : List ℤ} {ss ancestors order room₀ : List ℕ} {all : TxSet} {sets outsides tops : List ℕ} {sumFees : List ℤ}
+    {sumSizes : List ℕ} {r : ℕ} {drops : TxSet} {room : List ℕ} {left done : TxSet} {len round : ℕ}
+    (p : Rounds fs ss ancestors order room₀ all sets outsides tops sumFees sumSizes r drops room left done len round) where
   -- a candidate of the definition
   candidate : ℕ → Bool
   candidate k = not (elem k (p .gone)) && chunkReady (length fs) (memAt ancestors) (p .out) (chunkAt (chunksOf fs ss order) k)
 
   above-same : (x y : ℕ) → x < r → y < r → sumAbove sumFees sumSizes tops x y ≡ chunkAbove fs ss (length fs) (chunksOf fs ss order) x y
   unfolding sumAbove chunkAbove
-  above-same x y lx ly = rw (p .known .survey .rate x lx, p .known .survey .rate y ly, p .known .chunks .tops x lx, p .known .chunks .tops y ly)
+  above-same x y lx ly = rw (p .known .rates x lx, p .known .rates y ly, p .known .chunks .holds x lx .highest, p .known .chunks .holds y ly .highest)
 
   -- what is chosen is what the definition takes
   chosen-chunk : chunkOf outsides sumFees sumSizes tops left done
@@ -160,7 +186,13 @@ module _ {fs : List ℤ} {ss ancestors order room₀ : List ℕ} {all : TxSet} {
       ready i l =
           ap (λ (b : Bool). not (elem i (p .gone)) && b)
           (covered-ready (length fs) done (p .out) (p .placed .member) (memAt ancestors) (chunkAt (chunksOf fs ss order) i) (setAt outsides i)
-          (p .known .survey .outside i l))
+          (p .known .chunks .holds i l .outsiders))
+
+  -- past one of `drops` none of those left is above one before it
+  pub rounds-below : Below (rateAt sumFees sumSizes) left drops
+  rounds-below = record {
+    falls = λ i d j m a b e. p .known .falling .falls i d j m a b (ltb-true j r (and-eq-true-iff (ltb j r) (not (elem j (p .gone))) .0 (sym (p .rest j) ∙ e) .0));
+  }
 
   -- k is chosen
   module _ (k : ℕ) (is : chunkOf outsides sumFees sumSizes tops left done ≡ k ∷ []) where
@@ -175,14 +207,14 @@ module _ {fs : List ℤ} {ss ancestors order room₀ : List ℕ} {all : TxSet} {
     chosen-small chunk at i e =
         ltb-true i (length fs)
         (and-eq-true-iff (ltb i (length fs)) (elem i (chunkAt (chunksOf fs ss order) k)) .0
-        (sym (ap (λ (s : TxSet). mem s i) at ∙ p .known .chunks .sets k chosen-below i) ∙ e)
+        (sym (ap (λ (s : TxSet). mem s i) at ∙ p .known .chunks .holds k chosen-below .members i) ∙ e)
         .0)
 
     -- it is taken, and its members are put out
     pub rounds-turn : (left' chunk done' : TxSet) (len' : ℕ) (room' : List ℕ) → round < r
         → ((i : ℕ) → mem left' i ≡ (mem left i && not (eqb i k))) → chunk ≡ setAt sets k
         → Put fs ss (length fs) (memAt ancestors) chunk done len room done' len' room'
-        → Rounds fs ss ancestors order room₀ all sets tops r outsides sumFees sumSizes room' left' done' len' (round + 1)
+        → Rounds fs ss ancestors order room₀ all sets outsides tops sumFees sumSizes r drops room' left' done' len' (round + 1)
     unfolding putOut elem anyOf
     rounds-turn left' chunk done' len' room' l less at put =
         let cs = chunksOf fs ss order in
@@ -196,7 +228,7 @@ module _ {fs : List ℤ} {ss ancestors order room₀ : List ℕ} {all : TxSet} {
           rest = λ i. less i ∙ ap (λ (b : Bool). b && not (eqb i k)) (p .rest i) ∙ without-or (ltb i r) (elem i (p .gone)) (eqb i k)
               ∙ ap (λ (b : Bool). ltb i r && not b) (or-comm (elem i (p .gone)) (eqb i k));
           stands = put .stands;
-          placed = put .puts c (p .out) room₀ (λ i. ap (λ (s : TxSet). mem s i) at ∙ p .known .chunks .sets k chosen-below i) (p .placed);
+          placed = put .puts c (p .out) room₀ (λ i. ap (λ (s : TxSet). mem s i) at ∙ p .known .chunks .holds k chosen-below .members i) (p .placed);
           same =
               let e : suc (r - (round + 1)) ≡ r - round = omega arith in
               sym (chunks-step fs ss n (memAt ancestors) cs (p .gone) (p .out) (r - (round + 1)) (k ∷ []) (sym chosen-chunk ∙ is))

@@ -1,18 +1,18 @@
 // Module 7 of document 01: output_order. The chunks by rank, and inside each its members by rank, both subject to ancestors. Of equal rates
 // the smaller comes first, so what may not fit a block's tail comes last; and where rank leaves a tie positions decide, so that one
-// cluster has one order. Each round scans the chunks that are left, and each member of a chunk costs a scan of those left in it.
+// cluster has one order. Each round scans the chunks that are left as far as none behind can be higher, which is one chunk where all rates
+// differ; each member of a chunk costs a scan of those left in it.
 ghost use mathlib.Core.Path.{_≡_};
-ghost use mathlib.Core.Bool.{true, _&&_};
+ghost use mathlib.Core.Bool.{true};
 ghost use mathlib.Core.List.{List};
-ghost use Prim.Native.Nat.{ℕ, _≤_, _<_};
+ghost use Prim.Native.Nat.{ℕ, _≤_, _<_, max};
 ghost use lib.ListN.{length};
-ghost use Rattle.lists.specs.Lists.{anyOf, elem, highestOf};
-ghost use Rattle.txset.specs.Sets.{positions, setWords, isPosition, mem, members, setAt, memAt};
+ghost use Rattle.feefrac.specs.Rate.{rateAt};
+ghost use Rattle.txset.specs.Sets.{positions, mem, memAt};
 ghost use Rattle.chunking.specs.Orders.{chunksOf};
 ghost use Rattle.output_order.specs.Output.{written, filled};
-ghost use Rattle.output_order.specs.Steps.{All, Cut, Outsides, Summed};
+ghost use Rattle.output_order.specs.Steps.{All, Stack, Cut, Alone, Swallowed, Summed, Below, Drops};
 ghost use Rattle.output_order.specs.Rounds.{chosen, foundOf, sumAbove, chunkOf, memberOf, Standing, PutOut};
-use chunking::order_lengths;
 use feefrac::FeeFrac;
 use feefrac::compare_sizes;
 use feefrac::is_greater;
@@ -32,6 +32,16 @@ enum Choice {
 struct Out {
     done: TxSet,
     len: usize,
+}
+
+// A chunk on its way through the cut: its feerate sum, its members, the ancestors that these have outside it, its highest position, and
+// its place in the list of chunks.
+struct Piece {
+    rate: FeeFrac,
+    set: TxSet,
+    outside: TxSet,
+    top: usize,
+    at: usize,
 }
 
 // Writes the members of an order, as they are put out, to the start of the room, and answers how many there are. `ancestors` has a set
@@ -58,13 +68,24 @@ pub fn output_order(
     }
     let all = TxSet::full(n);
     let mut sets = [0u64; SET_WORDS];
-    let mut tops = [0usize; POSITIONS];
-    let count = cut(fees, sizes, all, order, &mut sets, &mut tops);
     let mut outsides = [0u64; SET_WORDS];
-    find_outsides(ancestors, all, &sets, count, &mut outsides);
+    let mut tops = [0usize; POSITIONS];
     let mut sum_fees = [0i64; POSITIONS];
     let mut sum_sizes = [0u64; POSITIONS];
+    let count = cut(
+        fees,
+        sizes,
+        ancestors,
+        all,
+        order,
+        &mut sets,
+        &mut outsides,
+        &mut tops,
+        &mut sum_fees,
+        &mut sum_sizes,
+    );
     sum_chunks(fees, sizes, &sets, count, &mut sum_fees, &mut sum_sizes);
+    let drops = find_drops(&sum_fees, &sum_sizes, count);
     let mut left = TxSet::full(count);
     let mut out = Out {
         done: TxSet::empty(),
@@ -74,7 +95,8 @@ pub fn output_order(
     // `out` has the members of the chunks that were taken, `left` the chunks to come.
     while round < count {
         let done = out.done;
-        let Choice::Of(k) = next_chunk(&outsides, &sum_fees, &sum_sizes, &tops, left, done) else {
+        let Choice::Of(k) = next_chunk(&outsides, &sum_fees, &sum_sizes, &tops, drops, left, done)
+        else {
             return out.len;
         };
         left = left.remove(k);
@@ -84,83 +106,107 @@ pub fn output_order(
     out.len
 }
 
-// The members of each chunk of the order as a set, and its highest position; answers how many chunks there are.
+// The chunks of the order in lists that serve as a stack, each at its place: its members as a set, the ancestors that these have outside it, its highest
+// position, and its feerate sum as the cut makes it. Each member swallows from the top and is then pushed. Answers how many there are.
 fn cut(
     fees: &[i64],
     sizes: &[u64],
+    ancestors: &[u64],
     all: TxSet,
     order: &[usize],
     sets: &mut [u64],
+    outsides: &mut [u64],
     tops: &mut [usize],
+    sum_fees: &mut [i64],
+    sum_sizes: &mut [u64],
 ) -> usize
     requires { ⌜ All (length (now fees)) all ⌝ }
     requires { ⌜ length (now order) ≤ length (now fees) ⌝ }
-    requires { ⌜ (length (now sets) ≡ setWords) × (length (now tops) ≡ positions) ⌝ }
-    ensures { λ r. ⌜ Cut (length (now (fees .entry))) (chunksOf (now (fees .entry)) (now (sizes .entry)) (now (order .entry))) (now (sets .exit)) (now (tops .exit)) r ⌝ }
+    requires { ⌜ Stack (now sets) (now outsides) (now tops) (now «sum_fees») (now «sum_sizes») ⌝ }
+    ensures { λ r. ⌜ Cut (length (now (fees .entry))) (memAt (now (ancestors .entry))) (chunksOf (now (fees .entry)) (now (sizes .entry)) (now (order .entry))) (now (sets .exit)) (now (outsides .exit)) (now (tops .exit)) r ⌝ }
 {
-    let mut lens = [0usize; POSITIONS];
-    let count = order_lengths(fees, sizes, order, &mut lens);
-    let mut start: usize = 0;
-    let mut k: usize = 0;
-    // The first k chunks are entered, and the next starts at `start`.
-    while k < count {
-        let end = start + lens[k];
-        let chunk = &order[start..end];
-        set_of(chunk).intersection(all).put(sets, k);
-        tops[k] = highest(chunk);
-        start = end;
-        k += 1;
+    let mut count: usize = 0;
+    let mut i: usize = 0;
+    // The first `count` places of the lists have the chunks of the first i members.
+    while i < order.len() {
+        let one = alone(fees, sizes, ancestors, all, order[i], count);
+        let whole = swallow(one, sets, outsides, tops, sum_fees, sum_sizes);
+        let at = whole.at;
+        whole.set.put(sets, at);
+        whole.outside.put(outsides, at);
+        tops[at] = whole.top;
+        whole.rate.put(sum_fees, sum_sizes, at);
+        count = at + 1;
+        i += 1;
     }
     count
 }
 
-// The positions of a list as a set.
-fn set_of(list: &[usize]) -> TxSet
-    ensures { λ r. ⌜ ((i : ℕ) → mem r i ≡ (isPosition i && elem i (now (list .entry)))) ⌝ }
+// A chunk of one member of the order, at this place. What is no member of the cluster has no set and needs nothing.
+fn alone(fees: &[i64], sizes: &[u64], ancestors: &[u64], all: TxSet, t: usize, at: usize) -> Piece
+    requires { ⌜ All (length (now fees)) all ⌝ }
+    ensures { λ r. ⌜ Alone (length (now (fees .entry))) (memAt (now (ancestors .entry))) (rateAt (now (fees .entry)) (now (sizes .entry)) t) t at r ⌝ }
 {
-    let mut set = TxSet::empty();
-    let mut k: usize = 0;
-    // `set` has the first k.
-    while k < list.len() {
-        let member = list[k];
-        set = set.insert(member);
-        k += 1;
+    let rate = FeeFrac::at(fees, sizes, t);
+    if fees.len() <= t {
+        return Piece {
+            rate,
+            set: TxSet::empty(),
+            outside: TxSet::empty(),
+            top: t,
+            at,
+        };
     }
-    set
+    Piece {
+        rate,
+        set: TxSet::singleton(t),
+        outside: TxSet::at(ancestors, t).intersection(all).remove(t),
+        top: t,
+        at,
+    }
 }
 
-// The highest position of a list, 0 of none.
-fn highest(list: &[usize]) -> usize
-    ensures { λ r. ⌜ r ≡ highestOf (now (list .entry)) ⌝ }
+// While the piece is strictly higher than the chunk before it, it swallows that chunk.
+fn swallow(
+    first: Piece,
+    sets: &[u64],
+    outsides: &[u64],
+    tops: &[usize],
+    sum_fees: &[i64],
+    sum_sizes: &[u64],
+) -> Piece
+    requires { ⌜ (first .at ≤ positions) × (length (now tops) ≡ positions) ⌝ }
+    ensures { λ r. ⌜ Swallowed (now (sets .entry)) (now (outsides .entry)) (now (tops .entry)) (now («sum_fees» .entry)) (now («sum_sizes» .entry)) first r ⌝ }
 {
-    let mut top: usize = 0;
-    let mut k: usize = 0;
-    // `top` is the highest of the first k.
-    while k < list.len() {
-        let member = list[k];
-        if top < member {
-            top = member;
+    let mut cur = first;
+    // `cur` has swallowed what stood from its place on.
+    while 0 < cur.at {
+        let at = cur.at - 1;
+        let rate = FeeFrac::at(sum_fees, sum_sizes, at);
+        if !cur.rate.higher_rate(rate) {
+            return cur;
         }
-        k += 1;
+        let set = cur.set.union(TxSet::at(sets, at));
+        let outside = cur.outside.union(TxSet::at(outsides, at)).subtract(set);
+        cur = Piece {
+            rate: cur.rate.add(rate),
+            set,
+            outside,
+            top: higher_of(cur.top, tops[at]),
+            at,
+        };
     }
-    top
+    cur
 }
 
-// Of each of the first `count` sets the ancestors that its members have outside it.
-fn find_outsides(ancestors: &[u64], all: TxSet, sets: &[u64], count: usize, outsides: &mut [u64])
-    requires { ⌜ (count ≤ positions) × (length (now outsides) ≡ setWords) ⌝ }
-    ensures { λ _. ⌜ Outsides (now (ancestors .entry)) all (now (sets .entry)) (now (outsides .exit)) count ⌝ }
+// The higher of two positions.
+fn higher_of(s: usize, t: usize) -> usize
+    ensures { λ r. ⌜ r ≡ max s t ⌝ }
 {
-    let mut k: usize = 0;
-    // Those of the first k are found.
-    while k < count {
-        let set = TxSet::at(sets, k);
-        all_ancestors(ancestors, set)
-            .intersection(all)
-            .subtract(set)
-            .put(outsides, k);
-        k += 1;
+    if s < t {
+        return t;
     }
+    s
 }
 
 // Of each of the first `count` sets the feerate sum.
@@ -183,31 +229,49 @@ fn sum_chunks(
     }
 }
 
-// The ancestors of all members of a set.
-fn all_ancestors(ancestors: &[u64], set: TxSet) -> TxSet
-    ensures { λ r. ⌜ ((a : ℕ) → mem r a ≡ anyOf (λ t. mem (setAt (now (ancestors .entry)) t) a) (members set)) ⌝ }
+// Of `count` rates those below all that come before them, where it can be told by neighbours: no size is 0, since such rates do not chain,
+// and none is higher than the one before it. Nothing otherwise.
+fn find_drops(sum_fees: &[i64], sum_sizes: &[u64], count: usize) -> TxSet
+    requires { ⌜ count ≤ positions ⌝ }
+    ensures { λ r. ⌜ Drops (rateAt (now («sum_fees» .entry)) (now («sum_sizes» .entry))) count r ⌝ }
 {
-    let mut found = TxSet::empty();
-    let mut rest = set;
-    // `found` has the ancestors of the members passed.
-    while !rest.is_empty() {
-        let t = rest.lowest();
-        rest = rest.without_lowest();
-        found = found.union(TxSet::at(ancestors, t));
+    let mut drops = TxSet::empty();
+    let mut last = FeeFrac::at(sum_fees, sum_sizes, 0);
+    if last.size == 0 {
+        return drops;
     }
-    found
+    let mut k: usize = 1;
+    // `last` is the rate before k; the first k fall, and `drops` has those of them that are below all before them.
+    while k < count {
+        let rate = FeeFrac::at(sum_fees, sum_sizes, k);
+        if rate.size == 0 {
+            return TxSet::empty();
+        }
+        if rate.higher_rate(last) {
+            return TxSet::empty();
+        }
+        if last.higher_rate(rate) {
+            drops = drops.insert(k);
+        }
+        last = rate;
+        k += 1;
+    }
+    drops
 }
 
-// Of the chunks left whose outside ancestors are out the one of the highest rank, then the lowest highest position.
+// Of the chunks left whose outside ancestors are out the one of the highest rank, then the lowest highest position. Past one of `drops` none
+// is above one before it.
 fn next_chunk(
     outsides: &[u64],
     sum_fees: &[i64],
     sum_sizes: &[u64],
     tops: &[usize],
+    drops: TxSet,
     left: TxSet,
     done: TxSet,
 ) -> Choice
     requires { ⌜ length (now tops) ≡ positions ⌝ }
+    requires { ⌜ Below (rateAt (now «sum_fees») (now «sum_sizes»)) left drops ⌝ }
     ensures { λ r. ⌜ chosen r ≡ chunkOf (now (outsides .entry)) (now («sum_fees» .entry)) (now («sum_sizes» .entry)) (now (tops .entry)) left done ⌝ }
 {
     let mut found: usize = POSITIONS;
@@ -215,6 +279,11 @@ fn next_chunk(
     // `found` is the best ready one of those passed, POSITIONS where there was none.
     while !rest.is_empty() {
         let k = rest.lowest();
+        if found < k {
+            if drops.contains(k) {
+                return found_choice(found);
+            }
+        }
         rest = rest.without_lowest();
         if !TxSet::at(outsides, k).is_subset(done) {
             continue;

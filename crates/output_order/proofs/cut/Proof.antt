@@ -1,65 +1,75 @@
-use Prim.Native.Nat.{_≤_, _-_}
+use Prim.Native.Nat.{_-_, _<_}
 use native.Mathlib.Omega.{arith}
-use mathlib.Core.Path.{refl}
-use lib.ListN.{length, getD}
+use mathlib.Core.Path.{refl, sym, _∙_}
+use lib.ListN.{length}
 use borrow.Author.Needs.{needs}
 use Rattle.txset.specs.Sets.{positions}
-use Rattle.chunking.specs.Orders.{orderLengths}
-use Rattle.chunking.proofs.Orders.{Lengths, lengths-are}
-use Rattle.output_order.proofs.Cutting.{Cutting, Bounds, cut-start, cut-bounds, cut-turn, cut-done}
+use Rattle.output_order.proofs.Cutting.{Cutting, cut-start, cut-place, cut-turn, cut-done}
 use Rattle.output_order.proofs.cut.Statement.{statement}
 use Rattle.output_order.proofs.cut.Tie as tie
 
 abbrev Inv-loop : tie.InvT-loop
-Inv-loop fees sizes all order sets₀ tops₀ lens count start₀ k₀ sets tops start k =
-    Cutting (length fees) (orderLengths fees sizes order) order sets tops start k
+Inv-loop fees sizes ancestors all order sets₀ outsides₀ tops₀ sum-fees₀ sum-sizes₀ count₀ i₀ sets outsides tops sum-fees sum-sizes count i =
+    Cutting fees sizes ancestors order sets outsides tops sum-fees sum-sizes count i
 
 abbrev μ-loop : tie.MeasureT-loop
-μ-loop fees sizes all order sets₀ tops₀ lens count start₀ k₀ sets tops start k = count - k
+μ-loop fees sizes ancestors all order sets₀ outsides₀ tops₀ sum-fees₀ sum-sizes₀ count₀ i₀ sets outsides tops sum-fees sum-sizes count i = length order - i
 
--- there are at most 64 members in the order
-short : (c : tie.Start Inv-loop μ-loop) → length (c .args .order .now) ≤ positions
-short c = omega (arith, c .pre .0 .few, c .pre .1 .0)
+swallow-requires : tie.Need-swallow-requires Inv-loop μ-loop
+swallow-requires c κs =
+    let one = c .before .before .before .before .before in
+    let turn = one .before .before in
+    let loop = turn .before in
+    let pre = loop .before .before .before .before .before .before .before .before .pre in
+    (omega (arith, one .alone .ensures .place, loop .loop .inv .few, turn .loop-test .taken, pre .0 .few, pre .1 .0), loop .loop .inv .stack .tops-long)
 
--- the lengths of the order's chunks are written
-made : (c : tie.After-order-lengths Inv-loop μ-loop)
-    → Lengths
-    (orderLengths (c .before .before .before .before .before .before .args .fees .now) (c .before .before .before .before .before .before .args .sizes .now)
-    (c .before .before .before .before .before .before .args .order .now))
-    (c .order-lengths .last .1 .1 .1 .0) (c .order-lengths .result)
-made c =
-    let few = short (c .before .before .before .before .before .before) in
-    lengths-are _ _ _ _ _ _ few few (c .order-lengths .ensures .0) (c .order-lengths .ensures .1)
+-- there is a place for what is pushed
+place : (c : tie.After-swallow Inv-loop μ-loop) → c .swallow .result .at < positions
+place c =
+    let one = c .before .before .before .before .before .before in
+    let turn = one .before .before in
+    let loop = turn .before in
+    let pre = loop .before .before .before .before .before .before .before .before .pre in
+    cut-place (loop .loop .inv) (one .alone .ensures) (c .swallow .ensures) (turn .loop-test .taken) (omega (arith, pre .0 .few, pre .1 .0))
 
-bounds : (c : tie.In-loop Inv-loop μ-loop)
-    → Bounds (c .before .before .before .before .before .before .before .before .before .args .order .now) (c .before .loop .start)
-    (getD (c .before .before .before .order-lengths .last .1 .1 .1 .0) (c .before .loop .k) 0) (c .before .loop .k)
-bounds c =
-    let lens = c .before .before .before in
-    let start = lens .before .before .before .before .before .before in
-    cut-bounds _ _ _ (made lens) (short start) (c .before .loop .inv) (c .loop-test .taken)
+mul-tops : tie.Need-mul-tops Inv-loop μ-loop
+mul-tops c = record { fits = omega (arith, place (c .before .before .before .before .before .before .before .before)) }
 
-loop-holds : tie.Need-loop-holds Inv-loop μ-loop
-loop-holds c =
-    let start = c .before .before .before .before .before .before .before in
-    cut-start (start .pre .1 .1 .0) (start .pre .1 .1 .1)
+slice-write-tops : tie.Need-slice-write-tops Inv-loop μ-loop
+slice-write-tops c =
+    let made = c .before .before .before .before .before .before .before .before in
+    let loop = made .before .before .before .before .before .before .before .before .before in
+    omega (arith, place made, loop .loop .inv .stack .tops-long)
+
+add-count : tie.Need-add-count Inv-loop μ-loop
+add-count c =
+    let made = c .before .before .before .before .before .before .before .before .before .before .before .before .before .before in
+    record { fits = omega (arith, place made) }
+
+add-i : tie.Need-add-i Inv-loop μ-loop
+add-i c =
+    let made = c .before .before .before .before .before .before .before .before .before .before .before .before .before .before in
+    let turn = made .before .before .before .before .before .before .before .before in
+    let pre = turn .before .before .before .before .before .before .before .before .before .pre in
+    record { fits = omega (arith, turn .loop-test .taken, pre .0 .few, pre .1 .0) }
 
 loop-again : tie.Need-loop-again Inv-loop μ-loop
 loop-again c =
-    let put = c .before .before .before in
-    let meet = put .before .before in
-    let set = meet .before in
-    let turn = set .before .before in
-    let lens = turn .before .before .before in
-    let start = lens .before .before .before .before .before .before in
-    cut-turn _ _ _ (made lens) (short start) (turn .before .loop .inv) (turn .loop-test .taken) _ _ _ _ _ _ _ (start .pre .0) refl
-    (set .set-of .ensures) (meet .intersection .ensures) (put .put .ensures) (c .highest .ensures) refl
+    let rates = c .before .before .before in
+    let outside = rates .before .before .before .before .before in
+    let set = outside .before .before .before .before in
+    let made = set .before .before in
+    let one = made .before .before .before .before .before .before in
+    let turn = one .before .before in
+    let loop = turn .before in
+    let pre = loop .before .before .before .before .before .before .before .before .pre in
+    cut-turn (loop .loop .inv) (one .alone .ensures) (made .swallow .ensures) (turn .loop-test .taken) (omega (arith, pre .0 .few, pre .1 .0))
+    (set .put .ensures) (outside .put2 .ensures) refl (rates .put3 .ensures .0) (rates .put3 .ensures .1)
 
 returns : tie.Need-returns Inv-loop μ-loop
 returns c =
-    let lens = c .before .before .before in
-    let start = lens .before .before .before .before .before .before in
-    cut-done _ _ _ (made lens) (short start) (c .before .loop .inv) (c .loop-test .left)
+    let pre = c .before .before .before .before .before .before .before .before .before .pre in
+    cut-done (c .before .loop .inv) (c .loop-test .left) (omega (arith, pre .0 .few, pre .1 .0))
 
 pub cut-spec : {M : Type 1} → statement M
 cut-spec =
@@ -67,25 +77,23 @@ cut-spec =
     (tie.spec
     Inv-loop
     μ-loop
+    (λ c. cut-start (c .before .before .before .before .before .before .before .pre .1 .1))
     (λ c. search needs)
-    (λ c κs. search needs)
-    loop-holds
-    (λ c. let b = bounds c in search needs)
-    (λ c. let b = bounds c in search needs)
-    (λ c. let b = bounds c in search needs)
-    (λ c. let b = bounds c in search needs)
-    (λ c. let b = bounds c in search needs)
-    (λ c. let b = bounds c in search needs)
-    (λ c. let b = bounds c in search needs)
+    (λ c. search needs)
+    (λ c κs. c .before .before .before .before .before .before .before .before .before .before .pre .0)
+    swallow-requires
     (λ c κs. search needs)
     (λ c κs. search needs)
+    mul-tops
+    slice-write-tops
     (λ c κs. search needs)
-    (λ c κs. search needs)
-    (λ c. let b = bounds (c .before .before .before .before .before .before .before .before) in search needs)
-    (λ c. let b = bounds (c .before .before .before .before .before .before .before .before) in search needs)
-    (λ c. let b = bounds (c .before .before .before .before .before .before .before .before) in search needs)
+    add-count
+    add-i
     (λ c. search needs)
     loop-again
-    (λ c. search needs)
-    (λ c. search needs)
+    (λ c. c .before .loop .inv .stack .sets-long ∙ sym (c .before .before .before .before .before .before .before .before .before .pre .1 .1 .sets-long))
+    (λ c. c .before .loop .inv .stack .outsides-long ∙ sym (c .before .before .before .before .before .before .before .before .before .pre .1 .1 .outsides-long))
+    (λ c. c .before .loop .inv .stack .tops-long ∙ sym (c .before .before .before .before .before .before .before .before .before .pre .1 .1 .tops-long))
+    (λ c. c .before .loop .inv .stack .fees-long ∙ sym (c .before .before .before .before .before .before .before .before .before .pre .1 .1 .fees-long))
+    (λ c. c .before .loop .inv .stack .sizes-long ∙ sym (c .before .before .before .before .before .before .before .before .before .pre .1 .1 .sizes-long))
     returns)

@@ -5,18 +5,18 @@ use Prim.Native.Nat.{_-_}
 use lib.ListN.{length}
 use Rattle.output_order.specs.Steps.{All}
 use Rattle.output_order.specs.Rounds.{chosen}
-use Rattle.output_order.proofs.Rounds.{Rounds, full-all, rounds-start, chosen-small, rounds-turn, rounds-stop, rounds-done}
+use Rattle.output_order.proofs.Rounds.{Rounds, full-all, rounds-start, rounds-below, chosen-small, rounds-turn, rounds-stop, rounds-done}
 use Rattle.output_order.proofs.Rounds.{refuses-members, refuses-order, refuses-room}
-use Rattle.output_order.proofs.Surveying.{surveyed}
+use Rattle.output_order.proofs.Surveying.{chunk-rates}
 use Rattle.output_order.proofs.output_order.Statement.{statement}
 use Rattle.output_order.proofs.output_order.Tie as tie
 
 abbrev Inv-loop : tie.InvT-loop
-Inv-loop fees sizes ancestors order room₀ n all sets tops count outsides sum-fees sum-sizes left₀ out₀ round₀ room left out round =
-    Rounds fees sizes ancestors order room₀ all sets tops count outsides sum-fees sum-sizes room left (out .done) (out .len) round
+Inv-loop fees sizes ancestors order room₀ n all sets outsides tops sum-fees sum-sizes count drops left₀ out₀ round₀ room left out round =
+    Rounds fees sizes ancestors order room₀ all sets outsides tops sum-fees sum-sizes count drops room left (out .done) (out .len) round
 
 abbrev μ-loop : tie.MeasureT-loop
-μ-loop fees sizes ancestors order room₀ n all sets tops count outsides sum-fees sum-sizes left₀ out₀ round₀ room left out round = count - round
+μ-loop fees sizes ancestors order room₀ n all sets outsides tops sum-fees sum-sizes count drops left₀ out₀ round₀ room left out round = count - round
 
 returns : tie.Need-returns Inv-loop μ-loop
 returns c = refuses-members _ _ _ _ _ (c .if1 .taken)
@@ -33,25 +33,31 @@ whole : (c : tie.After-full Inv-loop μ-loop)
 whole c = full-all (c .before .before .before .if1 .left) (c .full .ensures)
 
 cut-requires : tie.Need-cut-requires Inv-loop μ-loop
-cut-requires c κs = let full = c .before .before in (whole full, (full .before .before .if2 .left, (refl, refl)))
+cut-requires c κs =
+    let full = c .before .before .before .before .before in
+    (whole full, (full .before .before .if2 .left, record { sets-long = refl; outsides-long = refl; tops-long = refl; fees-long = refl; sizes-long = refl }))
 
--- the cut, from the head of the loop
-abbrev made : tie.At-loop Inv-loop μ-loop → tie.After-cut Inv-loop μ-loop
-made c = c .before .before .before .before .before .before .before .before .before .before .before .before .before .before .before
+-- the cut, and the sums, from the head of the loop
+abbrev made : tie.After-sum-chunks Inv-loop μ-loop → tie.After-cut Inv-loop μ-loop
+made c = c .before .before .before .before .before .before .before .before .before
+
+abbrev summed : tie.At-loop Inv-loop μ-loop → tie.After-sum-chunks Inv-loop μ-loop
+summed c = c .before .before .before .before .before .before .before .before
 
 loop-holds : tie.Need-loop-holds Inv-loop μ-loop
 loop-holds c =
-    let sums = c .before .before .before .before in
-    let find = sums .before .before .before .before .before in
-    let cut = find .before .before .before .before .before in
-    let full = cut .before .before .before in
+    let drops = c .before .before in
+    let sums = drops .before .before .before .before .before in
+    let cut = made sums in
+    let full = cut .before .before .before .before .before .before in
     rounds-start _ _ _
     (record {
       whole = whole full;
       chunks = cut .cut .ensures;
-      survey = surveyed _ (whole full) (cut .cut .ensures) (find .find-outsides .ensures) (sums .sum-chunks .ensures);
+      rates = chunk-rates _ (whole full .few) (cut .cut .ensures) (sums .sum-chunks .ensures);
+      falling = drops .find-drops .ensures;
       short = full .before .before .if2 .left;
-      long = cut .cut .kept .1 .1 .1 .1 .1 .0;
+      long = cut .cut .kept .1 .1 .1 .1 .1 .1 .1 .0;
     })
     (full .before .if3 .left)
     (full-all (cut .cut .ensures .few) (c .before .full2 .ensures))
@@ -97,28 +103,31 @@ output-order-spec =
     (λ c κs. search needs)
     (λ c. search needs)
     (λ c. search needs)
+    (λ c. search needs)
+    (λ c. search needs)
+    (λ c. search needs)
     cut-requires
-    (λ c. search needs)
-    (λ c. search needs)
-    (λ c κs. (c .before .before .before .before .cut .ensures .few, refl))
-    (λ c. search needs)
-    (λ c. search needs)
-    (λ c. search needs)
-    (λ c κs. (c .before .before .before .before .before .before .before .before .before .cut .ensures .few, (refl, refl)))
+    (λ c. sym (c .before .before .before .before .before .before .cut .kept .1 .1 .1 .1 .1 .0))
+    (λ c. sym (c .before .before .before .before .before .before .before .cut .kept .1 .1 .1 .1 .1 .1 .1 .1 .0))
+    (λ c. sym (c .before .before .before .before .before .before .before .before .cut .kept .1 .1 .1 .1 .1 .1 .1 .1 .1 .0))
+    (λ c κs. let cut = c .before .before .before .before .before .before .before .before in (cut .cut .ensures .few, (cut .cut .kept .1 .1 .1 .1 .1 .1 .1 .1 .0, cut .cut .kept .1 .1 .1 .1 .1 .1 .1 .1 .1 .0)))
+    (λ c. let sums = c .before .before .before in sym (sums .sum-chunks .kept .1 .1 .1 .1 .0 ∙ made sums .cut .kept .1 .1 .1 .1 .1 .1 .1 .1 .0))
+    (λ c. let sums = c .before .before .before .before in sym (sums .sum-chunks .kept .1 .1 .1 .1 .1 .0 ∙ made sums .cut .kept .1 .1 .1 .1 .1 .1 .1 .1 .1 .0))
+    (λ c κs. made (c .before .before .before .before) .cut .ensures .few)
     (λ c κs. search needs)
     (λ c κs. search needs)
     loop-holds
-    (λ c. search needs)
-    (λ c. search needs)
-    (λ c. search needs)
-    (λ c. search needs)
-    (λ c κs. c .before .before .before .before .before .before .loop .inv .known .long)
+    (λ c. sym (made (summed (c .before .before .before)) .cut .kept .1 .1 .1 .1 .1 .1 .0))
+    (λ c. let sums = summed (c .before .before .before .before) in sym (sums .sum-chunks .kept .1 .1 .1 .1 .0 ∙ made sums .cut .kept .1 .1 .1 .1 .1 .1 .1 .1 .0))
+    (λ c. let sums = summed (c .before .before .before .before .before) in sym (sums .sum-chunks .kept .1 .1 .1 .1 .1 .0 ∙ made sums .cut .kept .1 .1 .1 .1 .1 .1 .1 .1 .1 .0))
+    (λ c. sym (made (summed (c .before .before .before .before .before .before)) .cut .kept .1 .1 .1 .1 .1 .1 .1 .0))
+    (λ c κs. let inv = c .before .before .before .before .before .before .loop .inv in (inv .known .long, rounds-below inv))
     (λ c. search needs)
     (λ c. search needs)
     (λ c. c .before .before .before .before .before .before .before .before .before .loop .inv .placed .long)
     returns-4
     (λ c κs. search needs)
-    (λ c. sym (made (c .before .before .before .before .before .before .before .before .before .before .before .before) .cut .kept .1 .1 .1 .1 .0))
+    (λ c. sym (made (summed (c .before .before .before .before .before .before .before .before .before .before .before .before)) .cut .kept .1 .1 .1 .1 .1 .0))
     (λ c κs. search needs)
     put-out-requires
     add-round
