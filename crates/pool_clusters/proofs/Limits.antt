@@ -9,27 +9,29 @@ use native.Mathlib.Omega.{arith}
 use lib.Dec.{eqb, ltb, leb}
 use lib.ListN.{length}
 use borrow.Author.Count.{below-more}
-use borrow.Author.Tests.{le-leb, lt-leb, leb-true, eq-eqb}
-use Rattle.lists.proofs.Bools.{clash, and-both, or-either, is-false}
+use borrow.Author.Tests.{lt-ltb, le-leb, lt-leb, leb-true, eq-eqb}
+use Rattle.lists.proofs.Bools.{clash, and-both, and-left, or-either, is-false}
 use Rattle.lists.proofs.Numbers.{flip}
 use Rattle.lists.proofs.Below.{count-ext, count-without, all-at, at-all}
 use Rattle.txset.specs.Sets.{hasIn}
-use Rattle.slotsets.specs.SlotSets.{setWords, span}
+use Rattle.slotsets.specs.SlotSets.{capacity, setWords, span, setOf}
+use Rattle.slotsets.proofs.SlotSets.{hasIn-set}
 use Rattle.weights.specs.Weights.{most, virtualSize}
 use Rattle.weights.specs.declared.RawWeight.{RawWeight}
 use Rattle.lists.proofs.Ranges.{count-within, count-none}
 use Rattle.ways.proofs.Cycles.{onward-trans}
 use Rattle.pool_table.specs.declared.Limits.{Limits}
-use Rattle.pool_table.specs.Pool.{Pool, slotCount, weightAt, occupied}
+use Rattle.pool_table.specs.Pool.{Pool, slotAt, slotCount, weightAt, occupied}
 use Rattle.pool_table.specs.Ranges.{limitsInRange}
-use Rattle.pool_table.specs.Links.{isLinked, inCluster, inClusters, countOf, sumFrom, weightOf}
+use Rattle.pool_table.specs.Links.{hasLinks, isLinked, inCluster, inClusters, countOf, sumFrom, weightOf}
 use Rattle.pool_table.specs.WellFormed.{isWithin, clustersWithin}
 use Rattle.pool_clusters.specs.declared.Union.{Union}
 use Rattle.pool_clusters.specs.declared.Part.{Part}
 use Rattle.pool_clusters.specs.Clusters.{unionOf, Gathered}
+use Rattle.pool_clusters.proofs.Words.{seed-one}
 use Rattle.pool_clusters.proofs.Reached.{reached-one, onward-lone}
 use Rattle.pool_clusters.proofs.Sums.{sum-ext, sum-none, sum-within, sum-without}
-use Rattle.pool_clusters.proofs.Linked.{linked-bounded, cluster-onward, clusters-reached}
+use Rattle.pool_clusters.proofs.Linked.{linked-none, linked-bounded, cluster-onward, clusters-reached}
 
 -- ---- one set of slots, however it is given
 
@@ -102,6 +104,11 @@ size-small l h =
     leb-true (l .size) 101000
     (and-both (leb 1 (l .size)) (leb (l .size) 101000) (and-both (leb 1 (l .count) && leb (l .count) 64) (leb 1 (l .size) && leb (l .size) 101000) h .1) .1)
 
+count-some : (l : Limits) → limitsInRange l ≡ true → 0 < l .count
+unfolding limitsInRange
+count-some l h =
+    leb-true 1 (l .count) (and-left (leb 1 (l .count)) (leb (l .count) 64) (and-left (leb 1 (l .count) && leb (l .count) 64) (leb 1 (l .size) && leb (l .size) 101000) h))
+
 size-fits : (w size : ℕ) → w ≤ 4 * size → virtualSize w ≤ size
 unfolding virtualSize
 size-fits w size h = omega arith
@@ -132,6 +139,19 @@ module _ (p : Pool) (f : ℕ → Bool) (part : Part) (h : Gathered p f (p .limit
     stands l =
         ap₂ _&&_ (sym (h .whole) ∙ e)
         (le-leb (virtualSize (weightOf p f)) (p .limits .size) (size-fits (weightOf p f) (p .limits .size) (omega (arith, weight-is))))
+
+-- a slot without links against the limits: it is one, and has its own weight
+module _ (p : Pool) (a : ℕ) (l : a < slotCount p) (m : a < capacity) (r : limitsInRange (p .limits) ≡ true) (h : hasLinks (slotAt p a) ≡ false) where
+  module _ (w : RawWeight) (e : w .0 ≡ weightAt p a) (n : w .0 ≤ most) where
+    itself : Gathered p (inCluster p a) (p .limits .count)
+        (record { found = setOf (λ i. eqb i a); union = record { count = 1; weight = w }; whole = ltb 0 (p .limits .count) })
+    itself = lone p a l (linked-none p a h) (p .limits .count) (setOf (λ i. eqb i a)) w (λ i. hasIn-set (λ j. eqb j a) i ∙ seed-one a i false m refl) e n
+
+    pub lone-heavy : 4 * p .limits .size < w .0 → isWithin p (inCluster p a) ≡ false
+    lone-heavy = too-heavy p _ _ itself (size-small (p .limits) r) (lt-ltb 0 (p .limits .count) (count-some (p .limits) r))
+
+    pub lone-stands : w .0 ≤ 4 * p .limits .size → isWithin p (inCluster p a) ≡ true
+    lone-stands = stands p _ _ itself (size-small (p .limits) r) (lt-ltb 0 (p .limits .count) (count-some (p .limits) r))
 
 -- ---- a set within another
 
@@ -179,15 +199,18 @@ module _ {p : Pool} {seen : List ℕ} {next : ℕ} (w : Walked p seen next) (l :
   pub walk-on : good p next ≡ true → Walked p seen (next + 1)
   walk-on h = record { short = omega arith; long = w .long; passed = below-more (λ i. good p i ≡ true) next (w .passed) h; safe = w .safe }
 
-  -- a free slot, and one that was seen
+  -- a free slot, one whose cluster is within the limits, and one that was seen
   pub walk-free : occupied p next ≡ false → Walked p seen (next + 1)
   walk-free e = walk-on (ap (λ (b : Bool). not b || isWithin p (inCluster p next)) e)
 
   within-good : isWithin p (inCluster p next) ≡ true → good p next ≡ true
   within-good h = ap (λ (b : Bool). not (occupied p next) || b) h ∙ or-true (not (occupied p next))
 
+  pub walk-within : isWithin p (inCluster p next) ≡ true → Walked p seen (next + 1)
+  walk-within h = walk-on (within-good h)
+
   pub walk-seen : hasIn seen next ≡ true → Walked p seen (next + 1)
-  walk-seen m = walk-on (within-good (w .safe next m))
+  walk-seen m = walk-within (w .safe next m)
 
   -- a cluster within the limits is seen
   pub walk-turn : {part : Part} → Gathered p (inCluster p next) (p .limits .count) part → part .whole ≡ true → isWithin p (inCluster p next) ≡ true

@@ -11,9 +11,11 @@ use Rattle.txset.specs.Sets.{hasIn}
 use Rattle.slotsets.proofs.SlotSets.{none-has}
 use Rattle.ways.specs.Ways.{Bounded}
 use Rattle.ways.proofs.Cycles.{onward}
+use Rattle.pool_table.specs.declared.Side.the-variants.{Parents, Children}
 use Rattle.pool_table.specs.Pool.{Slot, Pool, free, slotCount, slotAt}
-use Rattle.pool_table.specs.Links.{isParent, isChild, isLinked, inCluster, inClusters}
+use Rattle.pool_table.specs.Links.{hasLinks, isParent, isChild, isLinked, inCluster, inClusters}
 use Rattle.pool_table.proofs.Rows.{slot-past}
+use Rattle.pool_table.proofs.Named.{unlinked-side}
 use Rattle.pool_clusters.proofs.Reached.{reached}
 
 -- a link is a slot of the pool that the row names on a side
@@ -36,6 +38,13 @@ linked-is p a b = go (ltb a (slotCount p)) refl
         (ap (λ (x : Slot). hasIn (x .parents) b) nothing ∙ none-has b)
         (ap (λ (x : Slot). hasIn (x .children) b) nothing ∙ none-has b)
         ∙ and-false (ltb b (slotCount p)))
+
+-- so a slot that names nobody has no links
+pub linked-none : (p : Pool) (a : ℕ) → hasLinks (slotAt p a) ≡ false → (b : ℕ) → isLinked p a b ≡ false
+linked-none p a h b =
+    linked-is p a b
+    ∙ ap₂ (λ (x y : Bool). ltb b (slotCount p) && (x || y)) (unlinked-side (slotAt p a) h Parents b) (unlinked-side (slotAt p a) h Children b)
+    ∙ and-false (ltb b (slotCount p))
 
 -- both ends of a link are slots
 pub linked-bounded : (p : Pool) → Bounded (isLinked p) (slotCount p)

@@ -17,6 +17,7 @@ ghost use Rattle.pool_clusters.specs.Clusters.{clustersOf, AllSlots, Gat
 use pool_table::Limits;
 use pool_table::Side;
 use pool_table::is_legal;
+use pool_table::is_linked;
 use pool_table::is_occupied;
 use pool_table::link_word;
 use pool_table::slots;
@@ -167,8 +168,7 @@ fn cluster(table: &[u64], all: &[u64], a: usize, limit: usize) -> Part
 {
     let mut seeds = [0u64; 16];
     insert(&mut seeds, a);
-    let more = near(table, all, a);
-    if lowest(&more) < CAPACITY {
+    if is_linked(table, a) {
         return gather(table, all, &seeds, limit);
     }
     Part {
@@ -221,6 +221,12 @@ pub fn clusters_stand(table: &[u64]) -> bool
             continue;
         }
         if contains(&seen, a) {
+            continue;
+        }
+        if !is_linked(table, a) {
+            if 4 * limits.size < pool_table::weight(table, a).0 {
+                return false; // the slot alone
+            }
             continue;
         }
         let part = cluster(table, &all, a, limits.count as usize);

@@ -7,15 +7,18 @@ use lib.ListN.{length}
 use borrow.Author.Tests.{not-true, not-false}
 use borrow.Author.Needs.{needs}
 use Rattle.txset.proofs.Words.{hasIn-zeros}
+use Rattle.slotsets.specs.SlotSets.{capacity}
+use Rattle.weights.specs.declared.RawWeight.{RawWeight}
 use Rattle.pool_table.specs.declared.Limits.{Limits}
-use Rattle.pool_table.specs.Pool.{Pool, slotCount, occupied}
+use Rattle.pool_table.specs.Pool.{Pool, slotAt, slotCount, occupied}
 use Rattle.pool_table.specs.Words.{isLegal, poolOf}
 use Rattle.pool_table.specs.Ranges.{limitsInRange}
-use Rattle.pool_table.specs.Links.{inCluster}
+use Rattle.pool_table.specs.Links.{hasLinks, inCluster}
 use Rattle.pool_table.specs.WellFormed.{isWithin, clustersWithin}
+use Rattle.pool_table.proofs.Legal.{few-slots}
 use Rattle.pool_clusters.specs.Clusters.{Gathered}
 use Rattle.pool_clusters.proofs.Words.{all-slots}
-use Rattle.pool_clusters.proofs.Limits.{size-small, too-many, too-heavy, stands, Walked, walk-start, walk-free, walk-seen, walk-turn, walk-done, walk-fails}
+use Rattle.pool_clusters.proofs.Limits.{size-small, too-many, too-heavy, stands, lone-heavy, lone-stands, Walked, walk-start, walk-free, walk-within, walk-seen, walk-turn, walk-done, walk-fails}
 use Rattle.pool_clusters.proofs.clusters_stand.Statement.{statement}
 use Rattle.pool_clusters.proofs.clusters_stand.Tie as tie
 
@@ -55,14 +58,14 @@ below : (c : tie.Then3 Inv-loop μ-loop) → c .before .before .loop .next < slo
 below c = omega (arith, c .before .slots2 .ensures, c .if3 .taken)
 
 abbrev head-of : tie.After-cluster Inv-loop μ-loop → tie.At-loop Inv-loop μ-loop
-head-of c = c .before .before .before .before .before .before .before .before .before
+head-of c = c .before .before .before .before .before .before .before .before .before .before .before
 
 abbrev next-of : tie.After-cluster Inv-loop μ-loop → ℕ
 next-of c = head-of c .loop .next
 
 used : (c : tie.After-cluster Inv-loop μ-loop) → occupied (pool-of (head-of c .before)) (next-of c) ≡ true
 used c =
-    let else = c .before .before .before .before .before in
+    let else = c .before .before .before .before .before .before .before in
     sym (else .before .is-occupied .ensures) ∙ not-false (else .before .is-occupied .result) (else .if4 .left)
 
 gathered : (c : tie.After-cluster Inv-loop μ-loop)
@@ -73,7 +76,7 @@ gathered c =
 
 fails : (c : tie.After-cluster Inv-loop μ-loop) → isWithin (pool-of (head-of c .before)) (inCluster (pool-of (head-of c .before)) (next-of c)) ≡ false
     → clustersWithin (pool-of (head-of c .before)) ≡ false
-fails c h = walk-fails (pool-of (head-of c .before)) (next-of c) (below (c .before .before .before .before .before .before .before)) (used c) h
+fails c h = walk-fails (pool-of (head-of c .before)) (next-of c) (below (c .before .before .before .before .before .before .before .before .before)) (used c) h
 
 returns : tie.Need-returns Inv-loop μ-loop
 returns c =
@@ -101,47 +104,94 @@ loop-again-2 c =
     let turn = c .before .before .before .before .before in
     walk-seen (turn .before .before .loop .inv) (below turn) (sym (c .before .contains .ensures) ∙ c .if5 .taken)
 
-cluster-requires : tie.Need-cluster-requires Inv-loop μ-loop
-cluster-requires c κs =
-    let turn = c .before .before .before .before .before .before in
-    let b = turn .before .before .before in
-    (all-slots (table-of b) (b .below .result) (b .before .slots .result) (legal b) (b .before .slots .ensures) (search needs) (b .below .ensures), below turn)
+-- a slot alone
 
-returns-3 : tie.Need-returns-3 Inv-loop μ-loop
-returns-3 c =
-    let k = c .before .before in
-    answer (head-of k .before) false (fails k (too-many _ _ (k .cluster .result) (gathered k) (not-true (k .cluster .result .whole) (c .if6 .taken))))
+abbrev turn-of : tie.Then6 Inv-loop μ-loop → tie.Then3 Inv-loop μ-loop
+turn-of c = c .before .before .before .before .before .before .before
+
+abbrev lone-head : tie.Then6 Inv-loop μ-loop → tie.At-loop Inv-loop μ-loop
+lone-head c = turn-of c .before .before
+
+abbrev lone-pool : tie.Then6 Inv-loop μ-loop → Pool
+lone-pool c = pool-of (lone-head c .before)
+
+few : (c : tie.Then6 Inv-loop μ-loop) → lone-head c .loop .next < capacity
+few c = omega (arith, below (turn-of c), few-slots (table-of (lone-head c .before)) (legal (lone-head c .before)))
+
+unlinked : (c : tie.Then6 Inv-loop μ-loop) → hasLinks (slotAt (lone-pool c) (lone-head c .loop .next)) ≡ false
+unlinked c = sym (c .before .is-linked .ensures) ∙ not-true (c .before .is-linked .result) (c .if6 .taken)
 
 mul-if7 : tie.Need-mul-if7 Inv-loop μ-loop
 mul-if7 c =
-    let b = head-of (c .before .before .before) .before in
+    let b = lone-head (c .before) .before in
     omega (arith, ap (λ (l : Limits). l .size) (limits-are b), size-small (pool-of b .limits) (ranged b))
+
+returns-3 : tie.Need-returns-3 Inv-loop μ-loop
+returns-3 c =
+    let weight = c .before .before in
+    let lone = weight .before .before in
+    let b = lone-head lone .before in
+    let else = turn-of lone in
+    answer b false
+    (walk-fails (lone-pool lone) (lone-head lone .loop .next) (below else)
+    (let occupied = lone .before .before .before .before .before in sym (occupied .before .is-occupied .ensures) ∙ not-false (occupied .before .is-occupied .result) (occupied .if4 .left))
+    (lone-heavy (lone-pool lone) (lone-head lone .loop .next) (below else) (few lone) (ranged b) (unlinked lone) (weight .weight .result)
+    (ap (λ (w : RawWeight). w .0) (weight .weight .ensures))
+    (search needs)
+    (omega (arith, c .if7 .taken, ap (λ (l : Limits). l .size) (limits-are b)))))
+
+loop-again-3 : tie.Need-loop-again-3 Inv-loop μ-loop
+loop-again-3 c =
+    let weight = c .before .before in
+    let lone = weight .before .before in
+    let b = lone-head lone .before in
+    walk-within (lone-head lone .loop .inv) (below (turn-of lone))
+    (lone-stands (lone-pool lone) (lone-head lone .loop .next) (below (turn-of lone)) (few lone) (ranged b) (unlinked lone) (weight .weight .result)
+    (ap (λ (w : RawWeight). w .0) (weight .weight .ensures))
+    (search needs)
+    (omega (arith, c .if7 .left, ap (λ (l : Limits). l .size) (limits-are b))))
+
+cluster-requires : tie.Need-cluster-requires Inv-loop μ-loop
+cluster-requires c κs =
+    let turn = c .before .before .before .before .before .before .before .before in
+    let b = turn .before .before .before in
+    (all-slots (table-of b) (b .below .result) (b .before .slots .result) (legal b) (b .before .slots .ensures) (search needs) (b .below .ensures), below turn)
 
 returns-4 : tie.Need-returns-4 Inv-loop μ-loop
 returns-4 c =
+    let k = c .before .before in
+    answer (head-of k .before) false (fails k (too-many _ _ (k .cluster .result) (gathered k) (not-true (k .cluster .result .whole) (c .if8 .taken))))
+
+mul-if9 : tie.Need-mul-if9 Inv-loop μ-loop
+mul-if9 c =
+    let b = head-of (c .before .before .before) .before in
+    omega (arith, ap (λ (l : Limits). l .size) (limits-are b), size-small (pool-of b .limits) (ranged b))
+
+returns-5 : tie.Need-returns-5 Inv-loop μ-loop
+returns-5 c =
     let k = c .before .before .before .before .before in
     let b = head-of k .before in
     answer b false
     (fails k
     (too-heavy _ _ (k .cluster .result) (gathered k) (size-small (pool-of b .limits) (ranged b))
-    (not-false (k .cluster .result .whole) (c .before .before .before .if6 .left))
-    (omega (arith, c .if7 .taken, ap (λ (l : Limits). l .size) (limits-are b)))))
+    (not-false (k .cluster .result .whole) (c .before .before .before .if8 .left))
+    (omega (arith, c .if9 .taken, ap (λ (l : Limits). l .size) (limits-are b)))))
 
-loop-again-3 : tie.Need-loop-again-3 Inv-loop μ-loop
-loop-again-3 c =
+loop-again-4 : tie.Need-loop-again-4 Inv-loop μ-loop
+loop-again-4 c =
     let join = c .before in
     let light = join .before .before .before .before in
     let else = light .before .before .before in
     let k = else .before .before in
     let b = head-of k .before in
-    let whole = not-false (k .cluster .result .whole) (else .if6 .left) in
-    walk-turn (head-of k .loop .inv) (below (k .before .before .before .before .before .before .before)) (gathered k) whole
+    let whole = not-false (k .cluster .result .whole) (else .if8 .left) in
+    walk-turn (head-of k .loop .inv) (below (k .before .before .before .before .before .before .before .before .before)) (gathered k) whole
     (stands _ _ (k .cluster .result) (gathered k) (size-small (pool-of b .limits) (ranged b)) whole
-    (omega (arith, light .if7 .left, ap (λ (l : Limits). l .size) (limits-are b))))
+    (omega (arith, light .if9 .left, ap (λ (l : Limits). l .size) (limits-are b))))
     (join .join .last .0) (join .join .ensures .0) (join .join .ensures .1)
 
-returns-5 : tie.Need-returns-5 Inv-loop μ-loop
-returns-5 c =
+returns-6 : tie.Need-returns-6 Inv-loop μ-loop
+returns-6 c =
     let head = c .before .before in
     answer (head .before) true (walk-done (head .loop .inv) (omega (arith, c .before .slots2 .ensures, c .if3 .left)))
 
@@ -168,14 +218,20 @@ clusters-stand-spec =
     (λ c κs. search needs)
     (λ c. search needs)
     loop-again-2
+    (λ c κs. search needs)
+    mul-if7
+    (λ c κs. search needs)
+    returns-3
+    (λ c. search needs)
+    loop-again-3
     (λ c. search needs)
     cluster-requires
-    returns-3
-    mul-if7
     returns-4
+    mul-if9
+    returns-5
     (λ c. search needs)
     (λ c. search needs)
     (λ c κs. search needs)
     (λ c. search needs)
-    loop-again-3
-    returns-5)
+    loop-again-4
+    returns-6)
