@@ -1,3 +1,5 @@
 pub mod Mutual
-pub mod Ready
-pub mod Sweep
+pub mod Walks
+pub mod Walking
+pub mod Surveyed
+pub mod Ends

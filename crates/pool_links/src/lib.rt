@@ -1,33 +1,42 @@
 // The links of a pool's table, whatever it holds: whether parents and children name each other, and whether no chain of parents closes.
 ghost use mathlib.Core.Path.{_≡_};
-ghost use mathlib.Core.Bool.{true, _&&_, _||_};
-ghost use Prim.Native.Nat.{ℕ, _*_, _<_};
-ghost use lib.Dec.{ltb};
-ghost use lib.ListN.{length};
-ghost use Rattle.lists.specs.Below.{allFrom};
+ghost use mathlib.Core.Bool.{true, false, _&&_};
+ghost use mathlib.Core.List.{List};
+ghost use Prim.Native.Nat.{ℕ, _+_, _*_, _<_, _≤_};
+ghost use lib.ListN.{length, getD, take, replicate};
+ghost use Rattle.lists.specs.Below.{countFrom};
 ghost use Rattle.txset.specs.Sets.{hasIn};
-ghost use Rattle.slotsets.specs.SlotSets.{capacity, setWords, span};
-ghost use Rattle.pool_table.specs.Pool.{slotAt};
+ghost use Rattle.slotsets.specs.SlotSets.{capacity, setWords};
+ghost use Rattle.pool_table.specs.Pool.{slotAt, slotCount};
 ghost use Rattle.pool_table.specs.Words.{isLegal, poolOf};
-ghost use Rattle.pool_table.specs.Links.{sideOf};
+ghost use Rattle.pool_table.specs.Links.{hasLinks};
 ghost use Rattle.pool_table.specs.WellFormed.{linksMutual, acyclic};
-ghost use Rattle.pool_links.specs.Steps.{opposite, answers, holdsAt, isReady};
+ghost use Rattle.pool_links.specs.Steps.{isTied, noLink, ofDone, childrenTo, Walk, Walking};
 use pool_table::Side;
 use pool_table::is_legal;
+use pool_table::is_linked;
 use pool_table::is_occupied;
-use pool_table::link_word;
+use pool_table::links;
 use pool_table::names;
 use pool_table::slots;
-use slotsets::CAPACITY;
 use slotsets::SET_WORDS;
-use slotsets::below;
-use slotsets::contains;
-use slotsets::insert;
-use slotsets::lowest;
-use slotsets::remove;
 use txset::TxSet;
 
-// Whether a table of a legal length has mutual links and no chain of parents that comes back to where it started.
+// What the survey counted: the slots with links, and how many of them are queued, since they name no parent.
+struct Found {
+    linked: usize,
+    end: usize,
+}
+
+// How many are queued after a step, and whether the links that were walked are mutual.
+struct Step {
+    end: usize,
+    holds: bool,
+}
+
+// Whether a table of a legal length has mutual links and no chain of parents that comes back to where it started. Each link is walked once,
+// from the parent to the child, and each slot with links is queued when all links that it names from its parents were walked. Those on a
+// chain that closes wait for each other, and one that names a parent that does not answer waits for it: not all get into the queue.
 pub fn links_stand(table: &[u64]) -> bool
     ensures { λ r. ⌜ r ≡ (isLegal (length (now (table .entry)))
         && (linksMutual (poolOf (now (table .entry))) && acyclic (poolOf (now (table .entry))))) ⌝ }
@@ -35,135 +44,152 @@ pub fn links_stand(table: &[u64]) -> bool
     if !is_legal(table) {
         return false;
     }
-    if !are_mutual(table) {
-        return false;
+    let mut needs = [0u16; 1024];
+    let mut queue = [0u16; 1024];
+    let found = survey(table, &mut needs, &mut queue);
+    let mut end = found.end;
+    let mut at: usize = 0;
+    while at < end {
+        let step = release(table, at, &mut needs, &mut queue, end);
+        if !step.holds {
+            return false;
+        }
+        end = step.end;
+        at += 1;
     }
-    are_acyclic(table)
+    end == found.linked
 }
 
-// Whether whom a slot names on either side names it back.
-fn are_mutual(table: &[u64]) -> bool
-    ensures { λ r. ⌜ r ≡ linksMutual (poolOf (now (table .entry))) ⌝ }
+// Notes how many parents each slot names, and queues those that have links and name none.
+fn survey(table: &[u64], needs: &mut [u16], queue: &mut [u16]) -> Found
+    requires { ⌜ (isLegal (length (now table)) ≡ true) × (now needs ≡ replicate capacity 0) × (length (now queue) ≡ capacity) ⌝ }
+    ensures { λ r. ⌜ Walk (poolOf (now (table .entry))) noLink (now (needs .exit)) (now (queue .exit)) (r .end)
+        × (r .linked ≡ countFrom (λ c. hasLinks (slotAt (poolOf (now (table .entry))) c)) (slotCount (poolOf (now (table .entry)))) 0) ⌝ }
 {
     let n = slots(table);
-    let mut a: usize = 0;
-    while a < n {
-        if !side_holds(table, Side::Parents, a) {
-            return false;
-        }
-        if !side_holds(table, Side::Children, a) {
-            return false;
-        }
-        a += 1;
-    }
-    true
-}
-
-fn side_holds(table: &[u64], side: Side, a: usize) -> bool
-    ensures { λ r. ⌜ r ≡ allFrom (holdsAt (poolOf (now (table .entry))) side a) capacity 0 ⌝ }
-{
-    let mut j: usize = 0;
-    while j < SET_WORDS {
-        if !word_holds(table, side, a, j) {
-            return false;
-        }
-        j += 1;
-    }
-    true
-}
-
-// The same of the 64 slots from 64 j on.
-fn word_holds(table: &[u64], side: Side, a: usize, j: usize) -> bool
-    requires { ⌜ j < setWords ⌝ }
-    ensures { λ r. ⌜ r ≡ allFrom (holdsAt (poolOf (now (table .entry))) side a) 64 (64 * j) ⌝ }
-{
-    let mut rest = TxSet {
-        word: link_word(table, side, a, j),
-    };
-    while !rest.is_empty() {
-        let b = 64 * j + rest.lowest();
-        rest = rest.without_lowest();
-        if !is_answered(table, side, a, b) {
-            return false;
-        }
-    }
-    true
-}
-
-// Whether slot b is occupied and names slot a on the other side.
-fn is_answered(table: &[u64], side: Side, a: usize, b: usize) -> bool
-    ensures { λ r. ⌜ r ≡ answers (poolOf (now (table .entry))) side a b ⌝ }
-{
-    if is_occupied(table, b) {
-        return names(table, other(side), b, a);
-    }
-    false
-}
-
-fn other(side: Side) -> Side
-    ensures { λ r. ⌜ r ≡ opposite side ⌝ }
-{
-    match side {
-        Side::Parents => Side::Children,
-        Side::Children => Side::Parents,
-    }
-}
-
-// A slot is done once all its parents are, and is looked at again whenever one of them is done. Those on a chain that closes wait for
-// each other, so they are left over.
-fn are_acyclic(table: &[u64]) -> bool
-    requires { ⌜ isLegal (length (now table)) ≡ true ⌝ }
-    requires { ⌜ linksMutual (poolOf (now table)) ≡ true ⌝ }
-    ensures { λ r. ⌜ r ≡ acyclic (poolOf (now (table .entry))) ⌝ }
-{
-    let mut left = slots(table);
-    let mut todo = below(left);
-    let mut done = [0u64; 16];
-    loop {
-        let s = lowest(&todo);
-        if CAPACITY <= s {
-            return left == 0;
-        }
-        remove(&mut todo, s);
-        if !is_ready(table, s, &done) {
+    let mut linked: usize = 0;
+    let mut end: usize = 0;
+    let mut next: usize = 0;
+    while next < n {
+        let s = next;
+        next += 1;
+        if !is_linked(table, s) {
             continue;
         }
-        insert(&mut done, s);
-        left -= 1;
-        add_links(table, Side::Children, s, &mut todo);
+        let parents = count(links(table, Side::Parents, s));
+        needs[s] = parents as u16;
+        linked += 1;
+        if parents != 0 {
+            continue;
+        }
+        queue[end] = s as u16;
+        end += 1;
     }
+    Found { linked, end }
 }
 
-// Whether slot s is not done yet and all its parents are.
-fn is_ready(table: &[u64], s: usize, done: &[u64]) -> bool
-    ensures { λ r. ⌜ r ≡ isReady (poolOf (now (table .entry))) (now (done .entry)) s ⌝ }
+// How many members a set has.
+fn count(set: &[u64]) -> usize
+    requires { ⌜ length (now set) ≡ setWords ⌝ }
+    ensures { λ r. ⌜ r ≡ countFrom (hasIn (now (set .entry))) capacity 0 ⌝ }
 {
-    if contains(done, s) {
-        return false;
-    }
+    let mut members: usize = 0;
     let mut j: usize = 0;
     while j < SET_WORDS {
-        let parents = TxSet {
-            word: link_word(table, Side::Parents, s, j),
-        };
-        if !parents.is_subset(TxSet::at(done, j)) {
-            return false;
-        }
+        let word = TxSet { word: set[j] };
+        members += word.count();
         j += 1;
     }
-    true
+    members
 }
 
-// Adds whom slot s names on a side to a set, as far as it has words.
-fn add_links(table: &[u64], side: Side, s: usize, set: &mut [u64])
-    ensures { λ _. ⌜ length (now (set .exit)) ≡ length (now (set .entry)) ⌝ }
-    ensures { λ _. ⌜ ((i : ℕ) → hasIn (now (set .exit)) i ≡ (hasIn (now (set .entry)) i
-        || (ltb i (span (now (set .entry))) && hasIn (sideOf side (slotAt (poolOf (now (table .entry))) s)) i))) ⌝ }
+// Walks the links from the slot at one place of the queue to its children.
+fn release(table: &[u64], at: usize, needs: &mut [u16], queue: &mut [u16], end: usize) -> Step
+    requires { ⌜ Walk (poolOf (now table)) (ofDone (poolOf (now table)) (take at (now queue))) (now needs) (now queue) end × (at < end) ⌝ }
+    ensures { λ r. ⌜ (r .holds ≡ true → Walk (poolOf (now (table .entry))) (ofDone (poolOf (now (table .entry))) (take (at + 1) (now (queue .exit))))
+        (now (needs .exit)) (now (queue .exit)) (r .end) × (at < r .end)) ⌝ }
+    ensures { λ r. ⌜ (r .holds ≡ false → linksMutual (poolOf (now (table .entry))) ≡ false) ⌝ }
 {
-    let mut j: usize = 0;
-    while j < set.len() {
-        let w = set[j] | link_word(table, side, s, j);
-        set[j] = w;
-        j += 1;
+    let a = wide(queue[at]);
+    let words = links(table, Side::Children, a);
+    let mut to = end;
+    let mut next: usize = 0;
+    while next < SET_WORDS {
+        let j = next;
+        next += 1;
+        let word = TxSet { word: words[j] };
+        if word.is_empty() {
+            continue;
+        }
+        let step = release_word(table, at, a, j, word, needs, queue, to);
+        if !step.holds {
+            return step;
+        }
+        to = step.end;
     }
+    Step {
+        end: to,
+        holds: true,
+    }
+}
+
+fn wide(x: u16) -> usize
+    ensures { λ r. ⌜ r ≡ x ⌝ }
+{
+    x as usize
+}
+
+// Walks the links to the children in one word: 64 slots, from 64 j on.
+fn release_word(
+    table: &[u64],
+    at: usize,
+    a: usize,
+    j: usize,
+    word: TxSet,
+    needs: &mut [u16],
+    queue: &mut [u16],
+    end: usize,
+) -> Step
+    requires { ⌜ (j < setWords) × (word .word ≡ getD (slotAt (poolOf (now table)) a .children) j 0) ⌝ }
+    requires { ⌜ Walking (poolOf (now table)) at a (childrenTo (poolOf (now table)) a (64 * j)) (now needs) (now queue) end ⌝ }
+    ensures { λ r. ⌜ (r .holds ≡ true → Walking (poolOf (now (table .entry))) at a (childrenTo (poolOf (now (table .entry))) a (64 * (j + 1)))
+        (now (needs .exit)) (now (queue .exit)) (r .end)) ⌝ }
+    ensures { λ r. ⌜ (r .holds ≡ false → linksMutual (poolOf (now (table .entry))) ≡ false) ⌝ }
+{
+    let mut to = end;
+    let mut rest = word;
+    while !rest.is_empty() {
+        let c = 64 * j + rest.lowest();
+        rest = rest.without_lowest();
+        if !is_tied(table, a, c) {
+            return Step {
+                end: to,
+                holds: false,
+            };
+        }
+        let left = needs[c] - 1;
+        needs[c] = left;
+        if left != 0 {
+            continue;
+        }
+        queue[to] = c as u16;
+        to += 1;
+    }
+    Step {
+        end: to,
+        holds: true,
+    }
+}
+
+// Whether both slots are occupied, and c names a as its parent.
+fn is_tied(table: &[u64], a: usize, c: usize) -> bool
+    ensures { λ r. ⌜ r ≡ isTied (poolOf (now (table .entry))) a c ⌝ }
+{
+    if !is_occupied(table, a) {
+        return false;
+    }
+    if !is_occupied(table, c) {
+        return false;
+    }
+    names(table, Side::Parents, c, a)
 }
