@@ -216,7 +216,7 @@ impl Plan {
 }
 
 /// Random bytes; some begin alike, so that a later byte decides.
-fn random_txid(rng: &mut Rng) -> Txid {
+pub fn random_txid(rng: &mut Rng) -> Txid {
     let mut txid = [0; 32];
     let alike = rng.pick(&[0, 0, 0, 7, 8, 15, 24, 30]);
     for byte in &mut txid[alike..] {

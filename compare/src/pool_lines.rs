@@ -1,15 +1,17 @@
 //! Histories of the pool program, line by line, with the answers of the second reading: a long one that the gate runs
 //! without Rust (crates/run_pool_history), and random ones that are run beside a built program.
 
-use crate::history::{budget, minimum, reserve, Known, Numbers, Plan};
-use crate::pool::{Call, Limits, Pool, Txid, MOST_FEE};
-use crate::pool_program::{hex, Request, Session, LONGEST, MOST_PARENTS};
+use crate::history::{budget, minimum, random_txid, reserve, Known, Numbers, Plan};
+use crate::pool::{Limits, Pool, Txid, MOST_FEE};
+use crate::pool_program::{hex, Request, Session, LONGEST};
 use crate::pool_script::{text, text_of_call, Script};
 use crate::rng::Rng;
 use crate::template::chunks;
 use std::path::Path;
 
 const SEED: u64 = 600;
+/// What an add of short numbers has in a line of the most bytes.
+const MOST_PARENTS: usize = 124;
 /// Of each of its pools.
 const CALLS: usize = 1_100;
 
@@ -252,21 +254,22 @@ fn one_byte(right: &[u8], rng: &mut Rng) -> Vec<u8> {
     bytes
 }
 
-/// An add with as many parents as a line takes, or more; a line at the limit of its bytes or past it, which ends like a
+/// An add with as many parents as a line takes, or one more; a line at the limit of its bytes or past it, which ends like a
 /// right one.
 fn bulky(known: &Known, rng: &mut Rng) -> Vec<u8> {
     if rng.one_in(2) {
-        let count = rng.pick(&[MOST_PARENTS, MOST_PARENTS, MOST_PARENTS + 1, 120]);
+        let count = rng.pick(&[64, 65, MOST_PARENTS, MOST_PARENTS + 1]);
         let parents: Vec<Txid> = (0..count).map(|_| known.any(rng)).collect();
-        return of_many_parents(known.any(rng), &parents).into_bytes();
+        return of_many_parents(random_txid(rng), 400, &parents).into_bytes();
     }
     let length = rng.pick(&[LONGEST, LONGEST + 1, LONGEST + 1, 2 * LONGEST, 20_000]);
     ends_like_right(length, rng.pick(&[b'x', b' ', b'0', 0, 255]))
 }
 
-fn of_many_parents(own: Txid, parents: &[Txid]) -> String {
+fn of_many_parents(own: Txid, number: u64, parents: &[Txid]) -> String {
     let words: Vec<String> = parents.iter().map(hex).collect();
-    format!("add {} 1000 400 0 {}", hex(&own), words.join(" "))
+    let own = hex(&own);
+    format!("add {own} {number} {number} {number} {}", words.join(" "))
 }
 
 /// So many bytes, behind which a line stands that is right by itself.
@@ -361,18 +364,23 @@ fn settings(script: &mut Script) {
 /// The most parents and one more; lines of the most bytes, of one more and of many more.
 fn long_lines(script: &mut Script) {
     let id = |n: usize| [n as u8; 32];
-    let parents: Vec<Txid> = (1..=65).map(id).collect();
-    script.say(&text_of_call(&Call::Clear));
+    let parents: Vec<Txid> = (1..=MOST_PARENTS + 1).map(id).collect();
+    script.expect("make 6 64 101000 20", "0");
     for parent in &parents[..2] {
         script.say(&format!("add {} 900 400 4", hex(parent)));
     }
-    let lines = [
-        of_many_parents(id(99), &parents),
-        of_many_parents(id(98), &parents[1..]),
-        of_many_parents(id(97), &parents[..64]),
-    ];
-    for line in lines {
-        script.say(&line);
+    let most = &parents[..MOST_PARENTS];
+    for (own, number, parents, told) in [
+        (201, 400, &parents[..], "13 line="),
+        (202, 400, &parents[1..], "0 slot=2"),
+        (203, 400, &parents[..65], "0 slot=3"),
+        (204, 400, &parents[..64], "0 slot=4"),
+        // the longest line that is right: a byte less than a line may have
+        (205, u64::MAX, most, "3"),
+    ] {
+        let before = script.told.len();
+        script.say(&of_many_parents(id(own), number, parents));
+        assert!(script.told[before..].starts_with(told), "{own}");
     }
     script.say("template 4000000 400 1000");
     for (length, byte) in [

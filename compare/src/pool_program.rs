@@ -8,7 +8,6 @@ use crate::texts::{fee, number, MALFORMED};
 
 /// The most bytes before a line's newline.
 pub const LONGEST: usize = 8_192;
-pub const MOST_PARENTS: usize = 64;
 /// No call is possible before a pool is made: the table has no word then.
 const ILL_FORMED: u64 = 12;
 const OUT_OF_RANGE: u64 = 3;
@@ -53,9 +52,6 @@ pub fn request(line: &[u8]) -> Result<Request, u64> {
             Request::Make(number(slots)?, limits)
         }
         (b"add", [id, fee, weight, cost, parents @ ..]) => {
-            if parents.len() > MOST_PARENTS {
-                return Err(MALFORMED);
-            }
             let parents: Result<Vec<Txid>, u64> = parents.iter().map(|word| txid(word)).collect();
             Request::Call(Call::Add(Newcomer {
                 txid: txid(id)?,
@@ -308,7 +304,7 @@ mod tests {
             &format!("add {A}0 1 400 0"),
             &format!("add {upper} 1 400 0"),
             &format!("add {A} 1 400 0 "),
-            &format!("add {A} 1 400 0{}", format!(" {B}").repeat(65)),
+            &format!("add {A} 1 400 0{}", format!(" {B}").repeat(125)),
         ] {
             assert_eq!(
                 respond(format!("{line}\n").as_bytes()),
@@ -316,7 +312,7 @@ mod tests {
                 "{line}"
             );
         }
-        let parents = format!(" {B}").repeat(64);
+        let parents = format!(" {B}").repeat(124);
         let most = format!("add {A} 1 400 0{parents}");
         assert_eq!(told(&["make 1 64 101000 20", &most]), "0\n0 slot=0\n");
     }
