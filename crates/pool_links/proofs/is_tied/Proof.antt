@@ -1,5 +1,5 @@
-use mathlib.Core.Path.{sym, ap, ap₂, _∙_}
-use mathlib.Core.Bool.{Bool, _&&_, and-false}
+use mathlib.Core.Path.{_≡_, sym, ap, _∙_}
+use mathlib.Core.Bool.{Bool, false, _&&_, and-false}
 use borrow.Author.Tests.{not-true, not-false}
 use borrow.Author.Needs.{needs}
 use Rattle.txset.specs.Sets.{hasIn}
@@ -15,7 +15,13 @@ returns c = rw (← c .before .is-occupied .ensures, not-true (c .before .is-occ
 
 returns-2 : tie.Need-returns-2
 unfolding isTied
-returns-2 c = rw (← c .before .is-occupied2 .ensures, not-true (c .before .is-occupied2 .result) (c .if2 .taken), and-false)
+returns-2 c =
+    let args = c .before .before .before .before .before .args in
+    let p = poolOf (args .table .now) in
+    let e : occupied p (args .c) ≡ false = sym (c .before .is-occupied2 .ensures) ∙ not-true (c .before .is-occupied2 .result) (c .if2 .taken) in
+    sym
+    (ap (λ (b : Bool). (occupied p (args .a) && b) && hasIn (slotAt p (args .c) .parents) (args .a)) e
+    ∙ ap (λ (b : Bool). b && hasIn (slotAt p (args .c) .parents) (args .a)) (and-false (occupied p (args .a))))
 
 returns-3 : tie.Need-returns-3
 unfolding isTied
