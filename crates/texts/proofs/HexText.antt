@@ -124,7 +124,7 @@ module _ {text bytes : List ℕ} {i : ℕ} (s : Spelt text bytes i) where
 
 -- ---- what reading answers: the text is none of 64 digits, or its bytes were written where they fit
 
-bytes-length : (text : List ℕ) → length (hexBytes text) ≡ length text / 2
+pub bytes-length : (text : List ℕ) → length (hexBytes text) ≡ length text / 2
 unfolding hexBytes
 bytes-length [] = refl
 bytes-length (h ∷ []) = refl
