@@ -39,25 +39,33 @@ module _ (c : tie.After-place) where
 not-add : (c : tie.Else2) → same (take (end (c .before .before .before .before)) (line (c .before .before .before .before))) addWord ≡ false
 not-add c = sym (c .before .is-word .ensures) ∙ c .if2 .left
 
-not-remove : (c : tie.Else3) → same (take (end (c .before .before .before .before .before .before .before .before)) (line (c .before .before .before .before .before .before .before .before))) removeWord ≡ false
+not-remove : (c : tie.Else3) → same (take (end (c .before .before .before .before .before .before .before .before)) (line
+    (c .before .before .before .before .before .before .before .before))) removeWord ≡ false
 not-remove c = sym (c .before .is-word2 .ensures) ∙ c .if3 .left
 
 returns-2 : tie.Need-returns-2
-returns-2 c = c .read-add .ensures ∙ sym (asks (c .before .before .before .before .before .before .before) ∙ by-add _ _ (sym (c .before .before .before .before .is-word .ensures) ∙ c .before .before .before .if2 .taken))
+returns-2 c = c .read-add .ensures ∙ sym (asks (c .before .before .before .before .before .before .before) ∙ by-add _ _ (sym
+    (c .before .before .before .before .is-word .ensures) ∙ c .before .before .before .if2 .taken))
 
 returns-3 : tie.Need-returns-3
 returns-3 c =
-    c .read-remove .ensures _ ∙ sym (asks (c .before .before .before .before .before .before .before .before .before .before) ∙ by-remove _ _ (not-add (c .before .before .before .before .before .before)) (sym (c .before .before .before .is-word2 .ensures) ∙ c .before .before .if3 .taken))
+    c .read-remove .ensures _ ∙ sym (asks (c .before .before .before .before .before .before .before .before .before .before) ∙ by-remove _ _
+    (not-add (c .before .before .before .before .before .before)) (sym (c .before .before .before .is-word2 .ensures)
+    ∙ c .before .before .if3 .taken))
 
 returns-4 : tie.Need-returns-4
 returns-4 c =
     c .read-set-cost .ensures _
-    ∙ sym (asks (c .before .before .before .before .before .before .before .before .before .before .before .before .before .before) ∙ by-set-cost _ _ (not-add (c .before .before .before .before .before .before .before .before .before .before)) (not-remove (c .before .before .before .before .before .before)) (sym (c .before .before .before .is-word3 .ensures) ∙ c .before .before .if4 .taken))
+    ∙ sym (asks (c .before .before .before .before .before .before .before .before .before .before .before .before .before .before) ∙ by-set-cost _ _
+    (not-add (c .before .before .before .before .before .before .before .before .before .before)) (not-remove
+    (c .before .before .before .before .before .before)) (sym (c .before .before .before .is-word3 .ensures) ∙ c .before .before .if4 .taken))
 
 returns-5 : tie.Need-returns-5
 returns-5 c =
     c .read-plain .ensures _ _
-    ∙ sym (asks (c .before .before .before .before .before .before .before .before .before .before .before .before .before) ∙ by-plain _ _ (not-add (c .before .before .before .before .before .before .before .before .before)) (not-remove (c .before .before .before .before .before)) (sym (c .before .before .is-word3 .ensures) ∙ c .before .if4 .left))
+    ∙ sym (asks (c .before .before .before .before .before .before .before .before .before .before .before .before .before) ∙ by-plain _ _ (not-add
+    (c .before .before .before .before .before .before .before .before .before)) (not-remove (c .before .before .before .before .before)) (sym
+    (c .before .before .is-word3 .ensures) ∙ c .before .if4 .left))
 
 pub read-request-spec : {M : Type 1} → statement M
 read-request-spec =
@@ -74,13 +82,23 @@ read-request-spec =
     (λ c. whole (c .before .before .before .before .before))
     (λ c. search needs)
     (λ c κs. search needs)
-    (λ c. omega (arith, within (c .before .before .before .before .before .before .before .before), c .before .before .before .before .before .before .before .before .before .if1 .left))
+    (λ c. omega (
+      arith,
+      within (c .before .before .before .before .before .before .before .before),
+      c .before .before .before .before .before .before
+          .before .before .before .if1 .left,
+    ))
     (λ c κs. behind (c .before .before .before .before .before .before .before .before .before))
     returns-3
     (λ c. whole (c .before .before .before .before .before .before .before .before .before))
     (λ c. search needs)
     (λ c κs. search needs)
-    (λ c. omega (arith, within (c .before .before .before .before .before .before .before .before .before .before .before .before), c .before .before .before .before .before .before .before .before .before .before .before .before .before .if1 .left))
+    (λ c. omega (
+      arith,
+      within (c .before .before .before .before .before .before .before .before .before .before .before .before),
+      c .before .before
+          .before .before .before .before .before .before .before .before .before .before .before .if1 .left,
+    ))
     (λ c κs. behind (c .before .before .before .before .before .before .before .before .before .before .before .before .before))
     returns-4
     (λ c κs. behind (c .before .before .before .before .before .before .before .before .before .before .before .before))

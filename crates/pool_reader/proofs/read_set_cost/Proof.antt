@@ -15,18 +15,26 @@ use Rattle.pool_reader.proofs.read_set_cost.Tie as tie
 returns : tie.Need-returns
 returns c =
     let r = c .before .before .read-txid in
-    λ ps. sym (no-txid-cost _ (txid-malformed (c .before .before .before .before .before .args .line .now) (c .before .before .before .before .before .args .from) 0 (c .before .before .before .before .before .args .txid .now) (r .last .1 .1 .0) (c .enum-told .given .1) (r .ensures)))
+    λ ps. sym (no-txid-cost _ (txid-malformed (c .before .before .before .before .before .args .line .now)
+    (c .before .before .before .before .before .args .from) 0 (c .before .before .before .before .before .args .txid .now) (r .last .1 .1 .0)
+    (c .enum-told .given .1) (r .ensures)))
 
 only-numbers-requires : tie.Need-only-numbers-requires
 only-numbers-requires c κs =
     let r = c .before .before .before .before .read-txid in
-    txid-at (c .before .before .before .before .before .before .before .args .line .now) (c .before .before .before .before .before .before .before .args .from) 0 (c .before .before .before .before .before .before .before .args .txid .now) (r .last .1 .1 .0) (c .before .before .numbers .given .1) (r .ensures) .place
+    txid-at (c .before .before .before .before .before .before .before .args .line .now)
+    (c .before .before .before .before .before .before .before .args .from) 0
+    (c .before .before .before .before .before .before .before .args .txid .now) (r .last .1 .1 .0) (c .before .before .numbers .given .1)
+    (r .ensures) .place
 
 returns-2 : tie.Need-returns-2
 returns-2 c =
     let r = c .before .before .before .before .before .before .before .read-txid in
     let o = c .before .before .only-numbers in
-    let t = txid-at (c .before .before .before .before .before .before .before .before .before .before .args .line .now) (c .before .before .before .before .before .before .before .before .before .before .args .from) 0 (c .before .before .before .before .before .before .before .before .before .before .args .txid .now) (r .last .1 .1 .0) (c .before .before .before .before .before .numbers .given .1) (r .ensures) in
+    let t = txid-at (c .before .before .before .before .before .before .before .before .before .before .args .line .now)
+    (c .before .before .before .before .before .before .before .before .before .before .args .from) 0
+    (c .before .before .before .before .before .before .before .before .before .before .args .txid .now) (r .last .1 .1 .0)
+    (c .before .before .before .before .before .numbers .given .1) (r .ensures) in
     let long : length (o .last .1 .1 .0) ≡ 1 = search needs in
     λ ps.
     sym (ap asSetCost (t .words) ∙ no-cost (t .word) _ (o .last .1 .1 .0) long (sym (o .ensures .0) ∙ not-true (o .result) (c .if1 .taken)))
@@ -35,7 +43,10 @@ returns-3 : tie.Need-returns-3
 returns-3 c =
     let r = c .before .before .before .before .before .before .before .read-txid in
     let o = c .before .before .only-numbers in
-    let t = txid-at (c .before .before .before .before .before .before .before .before .before .before .args .line .now) (c .before .before .before .before .before .before .before .before .before .before .args .from) 0 (c .before .before .before .before .before .before .before .before .before .before .args .txid .now) (r .last .1 .1 .0) (c .before .before .before .before .before .numbers .given .1) (r .ensures) in
+    let t = txid-at (c .before .before .before .before .before .before .before .before .before .before .args .line .now)
+    (c .before .before .before .before .before .before .before .before .before .before .args .from) 0
+    (c .before .before .before .before .before .before .before .before .before .before .args .txid .now) (r .last .1 .1 .0)
+    (c .before .before .before .before .before .numbers .given .1) (r .ensures) in
     let long : length (o .last .1 .1 .0) ≡ 1 = search needs in
     let size : length (c .before .before .before .before .before .before .before .before .before .before .args .txid .now) ≡ 32 = search needs in
     let yes = not-false (o .result) (c .if1 .left) in

@@ -34,14 +34,16 @@ loop-again c =
     let s = e .before .before in (
       search needs,
       s .loop .inv .1
-          ∙ same-turn (s .before .args .word .now) (s .before .args .key .now) (s .loop .i) (e .before .loop-test .taken) (e .if1 .left) (c .if2 .left),
+          ∙ same-turn (s .before .args .word .now) (s .before .args .key .now) (s .loop .i) (e .before .loop-test .taken) (e .if1 .left)
+          (c .if2 .left),
       search needs,
     )
 
 returns-3 : tie.Need-returns-3 Inv-loop μ-loop
 returns-3 c =
     let s = c .before in
-    sym (s .loop .inv .1 ∙ same-end (s .before .args .word .now) (s .before .args .key .now) (s .loop .i) (omega (arith, s .loop .inv .0, c .loop-test .left)) (s .loop .inv .2))
+    sym (s .loop .inv .1 ∙ same-end (s .before .args .word .now) (s .before .args .key .now) (s .loop .i) (omega
+    (arith, s .loop .inv .0, c .loop-test .left)) (s .loop .inv .2))
 
 pub is-word-spec : {M : Type 1} → statement M
 is-word-spec =

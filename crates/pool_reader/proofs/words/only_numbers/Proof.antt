@@ -20,15 +20,19 @@ returns : tie.Need-returns
 returns c =
     let r = c .before .before .before .before .read-numbers in
     let text = c .before .before .before .before .before .before .before .before .args .text .now in
-    let values = r .last .1 .1 .0 in
-    (sym (not-only _ values (numbers-malformed text (c .before .before .before .before .before .before .before .before .args .from) values (c .enum-told .given .1) (r .ensures))), λ e. clash e refl)
+    let values = r .last .1 .1 .0 in (
+      sym (not-only _ values (numbers-malformed text (c .before .before .before .before .before .before .before .before .args .from) values
+          (c .enum-told .given .1) (r .ensures))),
+      λ e. clash e refl,
+    )
 
 returns-2 : tie.Need-returns-2
 returns-2 c =
     let r = c .before .before .before .before .before .read-numbers in
     let text = c .before .before .before .before .before .before .before .before .before .args .text .now in
     let values = r .last .1 .1 .0 in
-    let n = numbers-at text (c .before .before .before .before .before .before .before .before .before .args .from) values (c .before .end .given .1) (r .ensures) in
+    let n = numbers-at text (c .before .before .before .before .before .before .before .before .before .args .from) values (c .before .end .given .1)
+    (r .ensures) in
     let end = c .before .end .given .0 .0 in (
       ⊎-elim (λ l. lt-ltb (length text) end l ∙ sym (numbers-end n l .0)) (λ l. le-ltb (length text) end l ∙ sym (numbers-more n l))
           (lt-or-ge (length text) end),

@@ -47,7 +47,8 @@ returns-3 c =
     let r = c .before .before .before .read-hex in
     let p = c .before .before .before .before .before .before in
     rw (p .place .ensures)
-    (txid-to _ _ _ (start p .pre .1) (text p) (from p) _ (start p .pre .0) (some p) (word p) (sym (r .ensures .0) ∙ not-false (r .result) (c .if2 .left))
+    (txid-to _ _ _ (start p .pre .1) (text p) (from p) _ (start p .pre .0) (some p) (word p) (sym (r .ensures .0) ∙ not-false (r .result)
+    (c .if2 .left))
     (r .ensures .1))
 
 pub read-txid-spec : {M : Type 1} → statement M

@@ -47,7 +47,12 @@ read-txids-spec =
     returns
     (λ c.
     let head = c .before .before .before .before .before .before .before .before in
-    omega (arith, one-fits (head .loop .inv) (omega (arith, c .before .before .before .before .before .before .before .loop-test .taken)), head .loop .inv .kept))
+    omega (
+      arith,
+      one-fits (head .loop .inv) (omega
+          (arith, c .before .before .before .before .before .before .before .loop-test .taken)),
+      head .loop .inv .kept,
+    ))
     (λ c.
     let r = c .before .before .before .before .before in
     let head = r .before .before .before in
