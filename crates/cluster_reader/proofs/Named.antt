@@ -18,11 +18,11 @@ use Rattle.txset.proofs.Bits.{has-ext, has-or, has-pow, has-nil}
 use Rattle.txset.proofs.Words.{hasIn-low}
 use Rattle.texts.specs.declared.numerals.Number.{Number}
 use Rattle.texts.specs.declared.numerals.Number.the-variants.{Value, Malformed}
-use Rattle.texts.specs.Numerals.{numberOf, numberIn}
+use Rattle.texts.specs.Numerals.{numberOf, numberIn, areNumbers}
 use Rattle.texts.specs.Places.{before, placeOf, split}
 use Rattle.texts.proofs.Places.{split-first, split-last, split-more}
 use Rattle.cluster_reader.specs.declared.Parents.the-variants as parents
-use Rattle.cluster_reader.specs.Reading.{parts, areNumbers, wordOf}
+use Rattle.cluster_reader.specs.Reading.{parts, wordOf}
 use Rattle.cluster_reader.specs.Steps.{parentsIn}
 
 -- ---- the word of a set

@@ -18,7 +18,7 @@ use Rattle.lists.proofs.Bools.{and-both, cond-first, cond-second}
 use Rattle.txset.specs.declared.TxSet.{TxSet}
 use Rattle.texts.specs.declared.numerals.Number.the-variants as number
 use Rattle.texts.specs.declared.numerals.Signed.the-variants as signed
-use Rattle.texts.specs.Numerals.{numberOf, signedOf, isNumber, numberIn, isSigned}
+use Rattle.texts.specs.Numerals.{numberOf, signedOf, isNumber, numberIn, areNumbers, isSigned}
 use Rattle.texts.specs.Places.{before, behind}
 use Rattle.texts.proofs.Places.{place-behind}
 use Rattle.cluster_reader.specs.declared.Input.{Input}
@@ -27,7 +27,7 @@ use Rattle.cluster_reader.specs.declared.Member.the-variants as member
 use Rattle.cluster_reader.specs.declared.MemberLines.{MemberLines}
 use Rattle.cluster_reader.specs.declared.Parents.the-variants as parents
 use Rattle.cluster_reader.specs.Lines.{longestLine, isField, valueOf}
-use Rattle.cluster_reader.specs.Reading.{nKey, feeKey, sizeKey, parentsKey, parts, areNumbers, wordOf}
+use Rattle.cluster_reader.specs.Reading.{nKey, feeKey, sizeKey, parentsKey, parts, wordOf}
 use Rattle.cluster_reader.specs.Reading.{isMember, memberFee, memberSize, memberParents, nextMember, Read, refused, cluster, members, read}
 use Rattle.cluster_reader.specs.Reading.{Told, told, readTold, firstTold}
 use Rattle.cluster_reader.specs.Calls.{feesAfter, sizesAfter, parentsAfter, Decided, isDecided}

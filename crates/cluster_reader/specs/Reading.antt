@@ -7,9 +7,8 @@ use lib.Dec.{ltb}
 use lib.Bits.{bitOr}
 use lib.IntN.{ℤ}
 use lib.ListN.{length}
-use Rattle.lists.specs.Lists.{allOf}
 use Rattle.txset.specs.Sets.{positions}
-use Rattle.texts.specs.Numerals.{isNil, numberOf, isNumber, numberIn, signedOf, isSigned, signedIn}
+use Rattle.texts.specs.Numerals.{isNil, numberOf, isNumber, numberIn, areNumbers, signedOf, isSigned, signedIn}
 use Rattle.texts.specs.Places.{behind, split}
 use Rattle.cluster_reader.specs.declared.Input.{Input}
 use Rattle.cluster_reader.specs.declared.Input.the-variants as input
@@ -32,9 +31,6 @@ parentsKey = 112 ∷ 97 ∷ 114 ∷ 101 ∷ 110 ∷ 116 ∷ 115 ∷ 61 ∷ []
 unfoldable pub parts : List ℕ → List (List ℕ)
 parts [] = []
 parts (b ∷ bs) = split 44 (b ∷ bs)
-
-unfoldable pub areNumbers : List (List ℕ) → Bool
-areNumbers ls = allOf (λ l. isNumber (numberOf l)) ls
 
 -- "repeats count once": the set of the positions named, as a word; a position that no set can hold is left out
 unfoldable pub wordOf : ℕ → List (List ℕ) → ℕ

@@ -15,7 +15,8 @@ use Rattle.cluster_reader.specs.declared.Member.the-variants as member
 use Rattle.cluster_reader.specs.declared.Parents.{Parents}
 use Rattle.cluster_reader.specs.declared.Parents.the-variants as named
 use Rattle.cluster_reader.specs.Lines.{isLine, isField}
-use Rattle.cluster_reader.specs.Reading.{parts, areNumbers, wordOf, isMember, memberFee, memberSize, memberParents}
+use Rattle.texts.specs.Numerals.{areNumbers}
+use Rattle.cluster_reader.specs.Reading.{parts, wordOf, isMember, memberFee, memberSize, memberParents}
 
 -- where the line that starts there ends, and where the one behind it starts
 unfoldable pub lineAt : List ℕ → ℕ → Line

@@ -1,20 +1,20 @@
 -- The lines of the chunks one chunk at a time, as the loop writes them, and that all that is printed fits the room. Assumes nothing.
 use mathlib.Core.Path.{_≡_, sym, _∙_}
 use mathlib.Core.Bool.{true, false}
-use mathlib.Core.Logic.{_⊎_, inl, inr, ⊎-elim}
+use mathlib.Core.Logic.{⊎-elim}
 use mathlib.Core.List.{List, [], _∷_, _++_}
 use Prim.Native.Nat.{ℕ, _+_, _-_, _*_, _≤_, _<_, min}
 use native.Mathlib.Numerals.{add-one}
 use native.Mathlib.Omega.{arith}
 use lib.IntN.{ℤ}
 use lib.ListN.{length, take, drop, getD, length-append, length-drop, drop-of-length-le}
-use lib.Seq.{drop-cons, drop-drop, take-all, take-length, drop-length}
+use lib.Seq.{drop-cons, drop-drop, drop-length}
 use borrow.Author.Tests.{le-leb, lt-leb}
-use Rattle.lists.proofs.Numbers.{lt-or-ge}
 use Rattle.feefrac.specs.declared.FeeFrac.{FeeFrac}
 use Rattle.txset.specs.Sets.{positions}
 use Rattle.feeset.specs.Total.{total}
 use Rattle.texts.specs.Rooms.{Room, Wrote, Writes}
+use Rattle.texts.proofs.Places.{min-is, take-min}
 use Rattle.texts.proofs.Append.{Left, next, done, at-start}
 use Rattle.texts.proofs.Digits.{decimal-length}
 use Rattle.texts.proofs.Numbers.{signed-length, commas-length}
@@ -23,13 +23,7 @@ use Rattle.cluster_writer.specs.Calls.{few, successPrinted, successRoom}
 
 -- ---- the chunks
 
--- taking or dropping more than there is
-min-is : (n m : ℕ) → (min n m ≡ n) ⊎ ((min n m ≡ m) × (m ≤ n))
-min-is n m = ⊎-elim (λ l. inl (omega arith)) (λ l. inr (omega arith, l)) (lt-or-ge n m)
-
-take-min : (n : ℕ) (xs : List ℕ) → take (min n (length xs)) xs ≡ take n xs
-take-min n xs = ⊎-elim (λ e. rw e) (λ e. rw (e .0, take-length xs) (sym (take-all n xs (e .1)))) (min-is n (length xs))
-
+-- dropping more than there is
 drop-min : (n : ℕ) (xs : List ℕ) → drop (min n (length xs)) xs ≡ drop n xs
 drop-min n xs = ⊎-elim (λ e. rw e) (λ e. rw (e .0, drop-length xs) (sym (drop-of-length-le xs (e .1)))) (min-is n (length xs))
 

@@ -4,14 +4,14 @@ ghost use mathlib.Core.Path.{_≡_};
 ghost use Prim.Native.Nat.{_+_, _≤_, min};
 ghost use lib.ListN.{length};
 ghost use Rattle.lists.specs.Lists.{overwrite};
-ghost use Rattle.texts.specs.Writing.{decimal, signed, commas, textLine};
+ghost use Rattle.texts.specs.Writing.{signed, commas, textLine};
 ghost use Rattle.texts.specs.Rooms.{Writes};
 ghost use Rattle.cluster_writer.specs.Writing.{orderKey, rateKey, chunkLines, allChunkLines, refusalText, shownRate};
 ghost use Rattle.cluster_writer.specs.Calls.{successPrinted, successRoom};
 use feefrac::FeeFrac;
 use feeset::list_feerate;
 use texts::write_bytes;
-use texts::write_decimal;
+use texts::write_line;
 use texts::write_numbers;
 use texts::write_signed;
 use txset::POSITIONS;
@@ -22,7 +22,7 @@ pub fn write_refusal(number: u64, out: &mut [u8; 8192]) -> usize
     ensures { λ r. ⌜ r ≡ length (refusalText number) ⌝ }
     ensures { λ _. ⌜ now (out .exit) ≡ overwrite (refusalText number) (now (out .entry)) ⌝ }
 {
-    number_line(b"answer=", number, out, 0)
+    write_line(b"answer=", number, out, 0)
 }
 
 // The answer line, the order and the lines of its chunks, whose lengths are `lens`. Where there are more members or chunks than positions it
@@ -43,7 +43,7 @@ pub fn write_success(
     if POSITIONS < lens.len() {
         return 0;
     }
-    let mut at = number_line(b"answer=", 0, out, 0);
+    let mut at = write_line(b"answer=", 0, out, 0);
     at = order_line(order, out, at);
     chunk_lines(fees, sizes, order, lens, out, at)
 }
@@ -96,7 +96,7 @@ fn chunk_end(start: usize, len: usize, count: usize) -> usize
 fn one_chunk(len: usize, rate: FeeFrac, out: &mut [u8], from: usize) -> usize
     ensures { λ r. ⌜ Writes (chunkLines len rate) from (now (out .entry)) (now (out .exit)) r ⌝ }
 {
-    let at = number_line(b"chunk=", len as u64, out, from);
+    let at = write_line(b"chunk=", len as u64, out, from);
     rate_line(shown_rate(rate), out, at)
 }
 
@@ -122,14 +122,6 @@ pub fn shown_rate(rate: FeeFrac) -> i64
         return i64::MAX;
     }
     q as i64
-}
-
-fn number_line(key: &[u8], number: u64, out: &mut [u8], from: usize) -> usize
-    ensures { λ r. ⌜ Writes (textLine (now (key .entry)) (decimal number)) from (now (out .entry)) (now (out .exit)) r ⌝ }
-{
-    let mut at = write_bytes(key, out, from);
-    at = write_decimal(number, out, at);
-    write_bytes(b"\n", out, at)
 }
 
 fn rate_line(rate: i64, out: &mut [u8], from: usize) -> usize

@@ -12,14 +12,14 @@ use borrow.Author.Tests.{le-leb, lt-leb, eq-eqb, ne-eqb, eqb-true, eqb-false}
 use Rattle.lists.proofs.Bools.{cases, and-both}
 use Rattle.lists.specs.Lists.{allOf, same}
 use Rattle.texts.specs.declared.numerals.Signed.the-variants as signed
-use Rattle.texts.specs.Numerals.{numberOf, isNumber, signedOf}
+use Rattle.texts.specs.Numerals.{numberOf, isNumber, areNumbers, signedOf}
 use Rattle.texts.specs.Places.{before, placeOf, split}
 use Rattle.texts.proofs.Places.{before-take}
 use Rattle.texts.specs.Hex.{isHex64, hexBytes}
 use Rattle.txids.specs.Txids.{txidAt}
 use Rattle.pool_rules.specs.Calls.{entryOf}
 use Rattle.pool_reader.specs.Requests.{Request, make, add, remove, setCost, clear, totals, delta, mark, template, malformed}
-use Rattle.pool_reader.specs.Requests.{areNumbers, numbersIn, areTxids, bytesIn, longestLine, requestOf, byWord, byPlainWord}
+use Rattle.pool_reader.specs.Requests.{numbersIn, areTxids, bytesIn, longestLine, requestOf, byWord, byPlainWord}
 use Rattle.pool_reader.specs.Requests.{makeWord, clearWord, totalsWord, deltaWord, markWord, templateWord, addWord, removeWord, setCostWord}
 use Rattle.pool_reader.specs.Requests.{asAdd, asRemove, asSetCost, asMake, asAlone, asDelta, asMark, asTemplate}
 use Rattle.pool_reader.specs.Steps.{wordsAt, Place, startNumbers, startsTxid, Numbers, TxidTo, Txids}

@@ -17,14 +17,14 @@ use Rattle.lists.proofs.Lists.{all-append}
 use Rattle.lists.proofs.Numbers.{lt-or-ge}
 use Rattle.texts.specs.declared.numerals.Number.{Number}
 use Rattle.texts.specs.declared.numerals.Number.the-variants.{Value, Malformed}
-use Rattle.texts.specs.Numerals.{numberOf, isNumber, numberIn}
+use Rattle.texts.specs.Numerals.{numberOf, isNumber, numberIn, areNumbers}
 use Rattle.texts.specs.Places.{before, placeOf, split}
 use Rattle.texts.specs.Hex.{isHexDigit, isHex64, hexBytes}
 use Rattle.texts.specs.Rooms.{fits, writtenAt, Room, Wrote}
 use Rattle.texts.proofs.Places.{place-le, split-last, split-more}
 use Rattle.texts.proofs.Append.{two, at-start, start-is, placed-length}
 use Rattle.texts.proofs.HexText.{bytes-length}
-use Rattle.pool_reader.specs.Requests.{areNumbers, numbersIn, areTxids, bytesIn}
+use Rattle.pool_reader.specs.Requests.{numbersIn, areTxids, bytesIn}
 use Rattle.pool_reader.specs.Steps.{wordsAt, Place, startNumbers, startsTxid, Numbers, TxidTo, Txids}
 use Rattle.pool_reader.specs.Steps.{NumbersRead, TxidRead, TxidsRead}
 use Rattle.pool_reader.specs.declared.words.Next.{Next}

@@ -7,7 +7,7 @@ use lib.Dec.{eqb, leb}
 use lib.ListN.{length, getD, take, drop}
 use lib.IntN.{ℤ}
 use Rattle.lists.specs.Lists.{allOf, same}
-use Rattle.texts.specs.Numerals.{numberOf, signedOf, isNumber, numberIn, isSigned, signedIn}
+use Rattle.texts.specs.Numerals.{numberOf, signedOf, numberIn, areNumbers, isSigned, signedIn}
 use Rattle.texts.specs.Places.{split}
 use Rattle.texts.specs.Hex.{isHex64, hexBytes}
 use Rattle.txids.specs.declared.Txid.{Txid}
@@ -64,9 +64,6 @@ templateWord = 116 ∷ 101 ∷ 109 ∷ 112 ∷ 108 ∷ 97 ∷ 116 ∷ 101 ∷ []
 -- a word of a list, and what words say as numbers, and as txids one after the other
 abbrev pub wordAt : List (List ℕ) → ℕ → List ℕ
 wordAt ws k = getD ws k []
-
-unfoldable pub areNumbers : List (List ℕ) → Bool
-areNumbers ws = allOf (λ w. isNumber (numberOf w)) ws
 
 unfoldable pub numbersIn : List (List ℕ) → List ℕ
 numbersIn ws = map (λ w. numberIn (numberOf w)) ws

@@ -5,7 +5,7 @@ use mathlib.Core.Bool.{Bool, true, false, cond, _&&_}
 use mathlib.Core.List.{List, [], _∷_, _++_}
 use lib.Dec.{leb}
 use lib.ListN.{length, take, drop}
-use Rattle.texts.specs.Numerals.{numberOf, isNumber}
+use Rattle.texts.specs.Numerals.{numberOf, isNumber, areNumbers}
 use Rattle.texts.specs.Places.{split}
 use Rattle.texts.specs.Rooms.{Wrote}
 use Rattle.texts.specs.Hex.{isHex64, hexBytes}
@@ -13,7 +13,7 @@ use Rattle.pool_reader.specs.declared.words.Next.{Next}
 use Rattle.pool_reader.specs.declared.words.Next.the-variants as next
 use Rattle.pool_reader.specs.declared.words.Listed.{Listed}
 use Rattle.pool_reader.specs.declared.words.Listed.the-variants as listed
-use Rattle.pool_reader.specs.Requests.{areNumbers, numbersIn, areTxids, bytesIn, longestLine}
+use Rattle.pool_reader.specs.Requests.{numbersIn, areTxids, bytesIn, longestLine}
 
 -- the words from there on; none past the end
 unfoldable pub wordsAt : List ℕ → ℕ → List (List ℕ)

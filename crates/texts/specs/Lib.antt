@@ -3,4 +3,3 @@ pub mod Writing
 pub mod Places
 pub mod Rooms
 pub mod Hex
-pub mod Steps

@@ -54,6 +54,10 @@ abbrev pub numberIn : Number → ℕ
 numberIn (Value v) = v
 numberIn Malformed = 0
 
+-- whether some texts are all numbers
+unfoldable pub areNumbers : List (List ℕ) → Bool
+areNumbers ls = allOf (λ l. isNumber (numberOf l)) ls
+
 abbrev pub isSigned : Signed → Bool
 isSigned (signed.Value z) = true
 isSigned signed.Malformed = false

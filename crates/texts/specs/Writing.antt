@@ -1,8 +1,8 @@
--- Numbers as programs print them, with commas between several, and a line. Assumes nothing.
+-- Numbers as programs print them, several things with commas between them, and a line. Assumes nothing.
 use Prim.Native.Nat.{ℕ, zero, suc, _+_, _/_, _%_}
 use mathlib.Core.Bool.{cond}
 use mathlib.Core.List.{List, [], _∷_, _++_}
-use lib.Dec.{ltb}
+use lib.Dec.{eqb, ltb}
 use lib.IntN.{ℤ, pos, negsuc}
 
 -- a number in decimal: its last digit behind the digits of its tenth. (`fuel` is the most digits that there can be: 20 for a u64)
@@ -18,11 +18,18 @@ unfoldable pub signed : ℤ → List ℕ
 signed (pos n) = decimal n
 signed (negsuc n) = 45 ∷ decimal (suc n)
 
--- numbers with commas between them
-unfoldable pub commas : List ℕ → List ℕ
-commas [] = []
-commas (x ∷ []) = decimal x
-commas (x ∷ y ∷ xs) = decimal x ++ (44 ∷ commas (y ∷ xs))
+-- what f prints of each, with commas between them; numbers so
+unfoldable pub joined : (ℕ → List ℕ) → List ℕ → List ℕ
+joined f [] = []
+joined f (x ∷ []) = f x
+joined f (x ∷ y ∷ xs) = f x ++ (44 ∷ joined f (y ∷ xs))
+
+abbrev pub commas : List ℕ → List ℕ
+commas xs = joined decimal xs
+
+-- the k-th of them, with the comma in front of it
+unfoldable pub item : (ℕ → List ℕ) → ℕ → ℕ → List ℕ
+item f k n = cond (eqb k 0) (f n) (44 ∷ f n)
 
 -- a line: its key, its value, a newline
 abbrev pub textLine : List ℕ → List ℕ → List ℕ

@@ -16,6 +16,7 @@ pub use numerals::Signed;
 pub use numerals::read_number;
 pub use numerals::read_signed;
 pub use numerals::write_decimal;
+pub use numerals::write_line;
 pub use numerals::write_numbers;
 pub use numerals::write_signed;
 

@@ -3,9 +3,8 @@ ghost use mathlib.Core.Path.{_≡_};
 ghost use lib.ListN.{length};
 ghost use lib.Dec.{leb};
 ghost use Rattle.texts.specs.Numerals.{numberOf, negative, signedOf};
-ghost use Rattle.texts.specs.Writing.{decimal, signed, commas};
+ghost use Rattle.texts.specs.Writing.{decimal, signed, commas, textLine, item};
 ghost use Rattle.texts.specs.Rooms.{endOf, writtenAt, Room, Wrote, Writes};
-ghost use Rattle.texts.specs.Steps.{item};
 use crate::write_bytes;
 
 // A number of a text, or that it is not of its form.
@@ -111,6 +110,27 @@ pub fn write_signed(number: i64, out: &mut [u8], at: usize) -> usize
     write_decimal(number as u64, out, at)
 }
 
+// A line: its key, a number and a newline, the latter two by way of a room of their own.
+pub fn write_line(key: &[u8], number: u64, out: &mut [u8], at: usize) -> usize
+    ensures { λ r. ⌜ r ≡ endOf (textLine (now (key .entry)) (decimal number)) at (now (out .entry)) ⌝ }
+    ensures { λ _. ⌜ now (out .exit) ≡ writtenAt (textLine (now (key .entry)) (decimal number)) at (now (out .entry)) ⌝ }
+{
+    let mut value = [0u8; 21];
+    let digits = write_decimal(number, &mut value, 0);
+    let len = write_bytes(b"\n", &mut value, digits);
+    if out.len() < at {
+        return at;
+    }
+    if out.len() - at < len {
+        return at;
+    }
+    if out.len() - at - len < key.len() {
+        return at;
+    }
+    let next = write_bytes(key, out, at);
+    write_bytes(&value[..len], out, next)
+}
+
 // The numbers with commas between them.
 pub fn write_numbers(numbers: &[usize], out: &mut [u8], at: usize) -> usize
     ensures { λ r. ⌜ r ≡ endOf (commas (now (numbers .entry))) at (now (out .entry)) ⌝ }
@@ -145,7 +165,7 @@ fn numbers_fit(numbers: &[usize], most: usize) -> bool
 
 // How many bytes the k-th of some numbers has, with its comma.
 fn item_len(k: usize, number: u64) -> usize
-    ensures { λ r. ⌜ r ≡ length (item k number) ⌝ }
+    ensures { λ r. ⌜ r ≡ length (item decimal k number) ⌝ }
 {
     let mut text = [0u8; 21];
     write_item(k, number, &mut text, 0)
@@ -167,7 +187,7 @@ fn each_number(numbers: &[usize], out: &mut [u8], from: usize) -> usize
 
 // The k-th of some numbers, a comma in front of each but the first.
 fn write_item(k: usize, number: u64, out: &mut [u8], at: usize) -> usize
-    ensures { λ r. ⌜ Writes (item k number) at (now (out .entry)) (now (out .exit)) r ⌝ }
+    ensures { λ r. ⌜ Writes (item decimal k number) at (now (out .entry)) (now (out .exit)) r ⌝ }
 {
     if k == 0 {
         return write_decimal(number, out, at);

@@ -3,7 +3,7 @@ use mir.Facts.{toZ-ofZ}
 use borrow.Author.Needs.{needs, sfits-of}
 use Rattle.feefrac.proofs.Signed.{Z}
 use Rattle.texts.specs.Writing.{decimal, textLine}
-use Rattle.texts.proofs.Append.{two}
+use Rattle.texts.proofs.Append.{two, writes}
 use Rattle.cluster_writer.specs.Writing.{chunkKey, chunkLines, shownRate}
 use Rattle.cluster_writer.proofs.one_chunk.Statement.{statement}
 use Rattle.cluster_writer.proofs.one_chunk.Tie as tie
@@ -17,7 +17,7 @@ unfolding chunkLines
 returns c =
     let shown = c .before .before .before .before in
     let first = shown .before .before .before in
-    two (textLine chunkKey (decimal _)) _ (first .number-line .ensures) (rw (rate-read shown) at (c .before .before .rate-line .ensures))
+    two (textLine chunkKey (decimal _)) _ (writes (first .write-line .ensures)) (rw (rate-read shown) at (c .before .before .rate-line .ensures))
 
 pub one-chunk-spec : {M : Type 1} → statement M
 one-chunk-spec =

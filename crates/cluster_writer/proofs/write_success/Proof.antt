@@ -1,7 +1,7 @@
 use native.Mathlib.Omega.{arith}
 use borrow.Author.Needs.{needs}
 use Rattle.texts.specs.Writing.{textLine, commas}
-use Rattle.texts.proofs.Append.{three}
+use Rattle.texts.proofs.Append.{three, writes}
 use Rattle.cluster_writer.specs.Writing.{orderKey, refusalText, successText}
 use Rattle.cluster_writer.proofs.Texts.{success-length, many-members, many-chunks, few-both, refused, answered}
 use Rattle.cluster_writer.proofs.write_success.Statement.{statement}
@@ -24,7 +24,7 @@ returns-3 c =
     let chunks = tests .if2 .left in
     let fits = success-length (args .fees .now) (args .sizes .now) (args .order .now) (args .lens .now) members chunks in
     let order = textLine orderKey (commas (args .order .now)) in
-    let all = three (refusalText 0) order _ (answer .number-line .ensures) (line .order-line .ensures) (c .chunk-lines .ensures) in
+    let all = three (refusalText 0) order _ (writes (answer .write-line .ensures)) (line .order-line .ensures) (c .chunk-lines .ensures) in
     answered _ _ (args .order .now) _ (few-both _ _ members chunks) (all (record { fits = omega (arith, fits) }))
 
 pub write-success-spec : {M : Type 1} → statement M

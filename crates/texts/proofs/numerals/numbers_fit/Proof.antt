@@ -3,12 +3,13 @@ use Prim.Native.Nat.{_-_}
 use native.Mathlib.Omega.{arith}
 use lib.ListN.{length}
 use borrow.Author.Needs.{needs}
+use Rattle.texts.specs.Writing.{decimal}
 use Rattle.texts.proofs.Numbers.{Measured, measure-start, too-many, measured, all-fit}
 use Rattle.texts.proofs.numerals.numbers_fit.Statement.{statement}
 use Rattle.texts.proofs.numerals.numbers_fit.Tie as tie
 
 abbrev Inv-loop : tie.InvT-loop
-Inv-loop numbers most left₀ k₀ left k = Measured numbers most k left
+Inv-loop numbers most left₀ k₀ left k = Measured decimal numbers most k left
 
 abbrev μ-loop : tie.MeasureT-loop
 μ-loop numbers most left₀ k₀ left k = length numbers - k

@@ -1,7 +1,6 @@
 use mathlib.Core.List.{[], _∷_}
 use borrow.Author.Needs.{needs}
-use Rattle.texts.specs.Writing.{decimal}
-use Rattle.texts.specs.Steps.{item}
+use Rattle.texts.specs.Writing.{decimal, item}
 use Rattle.texts.proofs.Append.{two, writes}
 use Rattle.texts.proofs.Numbers.{later-item}
 use Rattle.texts.proofs.numerals.write_item.Statement.{statement}
@@ -15,7 +14,7 @@ returns-2 : tie.Need-returns-2
 returns-2 c =
     let else = c .before .before .before .before .before .before .before .before .before in
     let comma = c .before .before .before .before .before .before in
-    rw (later-item (else .before .before .args .k) (else .before .before .args .number) (else .if1 .left))
+    rw (later-item decimal (else .before .before .args .k) (else .before .before .args .number) (else .if1 .left))
     (two (44 ∷ []) (decimal _) (writes (comma .write-bytes .ensures)) (writes (c .before .before .write-decimal2 .ensures)))
 
 pub write-item-spec : {M : Type 1} → statement M
