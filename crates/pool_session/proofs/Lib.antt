@@ -1,0 +1,4 @@
+pub mod Memory
+pub mod Making
+pub mod Steps
+pub mod Theorems
