@@ -6,7 +6,7 @@ use Prim.Native.Nat.{ℕ, zero, suc, _+_, _-_, _≤_, _<_}
 use native.Mathlib.Omega.{arith}
 use lib.Dec.{ltb, leb}
 use lib.IntN.{ℤ}
-use lib.ListN.{length, take, drop, length-append}
+use lib.ListN.{length, take, drop, getD, length-append}
 use lib.Seq.{take-at, drop-at, drop-append-add, drop-drop}
 use borrow.Author.Tests.{ltb-true, lt-leb, le-leb}
 use Rattle.feefrac.specs.declared.FeeFrac.{FeeFrac}
@@ -21,8 +21,9 @@ use Rattle.feeset.specs.Total.{total}
 use Rattle.feeset.specs.Scan.{best, ranksAbove}
 use Rattle.candidates.specs.Candidates.{givenBack, ancestorSum, remaining, candidate, remainingAncestors, fewerAncestors}
 use Rattle.candidates.specs.Candidates.{appendAncestors, appendFor, rounds, ancestorOrder, fits, written, filled}
-use Rattle.candidates.specs.Steps.{ancestorIn, fewerIn, sorted, GaveBack, Appended}
+use Rattle.candidates.specs.Steps.{ancestorIn, Counted, fewerBy, sorted, GaveBack, Appended}
 use Rattle.lists.proofs.Bools.{and-left}
+use Rattle.lists.proofs.Below.{elem-below}
 use Rattle.lists.proofs.Lists.{without-append}
 use Rattle.lists.proofs.Ranges.{list-below, count-below, count-parts}
 use Rattle.feeset.proofs.Scan.{best-ext}
@@ -52,12 +53,13 @@ module _ (ws : List ℕ) (n : ℕ) (few : n ≤ positions) (all : TxSet) (full :
   pub ancestors-below : (i : ℕ) → listFrom (ancestorIn ws all i) positions 0 ≡ listFrom (memAt ws i) n 0
   ancestors-below i = list-below (ancestorIn ws all i) (memAt ws i) n positions few (in-all i)
 
-  pub fewer-below : (x y : ℕ) → fewerIn ws all x y ≡ fewerAncestors n (memAt ws) x y
-  unfolding fewerIn fewerAncestors
-  fewer-below x y = ap₂ ltb (counted x) (counted y)
+  -- its counts are those of the definition
+  pub fewer-below : (counts : List ℕ) → Counted ws all n counts → (x y : ℕ) → x < n → y < n → fewerBy counts x y ≡ fewerAncestors n (memAt ws) x y
+  unfolding fewerBy fewerAncestors
+  fewer-below counts is x y p q = ap₂ ltb (counted x p) (counted y q)
     where
-      counted : (i : ℕ) → countFrom (ancestorIn ws all i) positions 0 ≡ countFrom (memAt ws i) n 0
-      counted i = count-below (ancestorIn ws all i) (memAt ws i) n positions few (in-all i)
+      counted : (i : ℕ) → i < n → getD counts i 0 ≡ countFrom (memAt ws i) n 0
+      counted i l = is .each i l ∙ count-below (ancestorIn ws all i) (memAt ws i) n positions few (in-all i)
 
   -- there are no more than n
   pub size-all : size all ≤ n
@@ -92,6 +94,8 @@ module _
     (few : n ≤ positions)
     (all : TxSet)
     (full : (i : ℕ) → mem all i ≡ (isPosition i && ltb i n))
+    (counts : List ℕ)
+    (counted : Counted ws all n counts)
     (room : List ℕ) where
   -- at first nothing is out
   pub take-start : (sum-fees : List ℤ) (sum-sizes : List ℕ) → length sum-fees ≡ positions → length sum-sizes ≡ positions
@@ -158,19 +162,26 @@ module _
           (rw (and-assoc (ltb a n) (memAt ws t a) (not (elem a (h .out))), and-assoc (ltb a n) (memAt ws t a && not (elem a (h .out))) (not (elem a gone)))
           (ap (λ (b : Bool). ltb a n && b) (without-append (memAt ws t a) a (h .out) gone)))
 
+      -- they are members
+      member : (gone : List ℕ) (x : ℕ) → elem x (listFrom (λ a. mem some a && not (elem a gone)) positions 0) ≡ true → x < n
+      member gone x e =
+          ltb-true x n
+          (and-left (ltb x n) (memAt ws t x && not (elem x (h .out ++ gone)))
+          (sym (some-left gone x) ∙ elem-below (λ a. mem some a && not (elem a gone)) positions x e .1))
+
       -- appending them one by one is appending them after what is out
       appends : (k : ℕ) (gone : List ℕ)
-          → appendAncestors n (memAt ws) t k (h .out ++ gone) ≡ h .out ++ sorted (fewerIn ws all) (mem some) k gone
+          → appendAncestors n (memAt ws) t k (h .out ++ gone) ≡ h .out ++ sorted (fewerBy counts) (mem some) k gone
       unfolding appendAncestors sorted remainingAncestors
       appends zero gone = refl
       appends (suc k) gone =
           let left = listFrom (λ a. mem some a && not (elem a gone)) positions 0 in
-          let e : best (fewerAncestors n (memAt ws)) (remainingAncestors n (memAt ws) t (h .out ++ gone)) ≡ best (fewerIn ws all) left =
+          let e : best (fewerAncestors n (memAt ws)) (remainingAncestors n (memAt ws) t (h .out ++ gone)) ≡ best (fewerBy counts) left =
           ap (best (fewerAncestors n (memAt ws))) (sym (list-below _ _ n positions few (some-left gone)))
-          ∙ best-ext _ _ left (λ x y _ _. sym (fewer-below ws n few all full x y)) in
+          ∙ best-ext _ _ left (λ x y p q. sym (fewer-below ws n few all full counts counted x y (member gone x p) (member gone y q))) in
           ap (appendAncestors n (memAt ws) t k)
           (append-assoc (h .out) gone _ ∙ ap (λ (l : List ℕ). h .out ++ (gone ++ l)) e)
-          ∙ appends k (gone ++ best (fewerIn ws all) left)
+          ∙ appends k (gone ++ best (fewerBy counts) left)
 
       some-members : members some ≡ remainingAncestors n (memAt ws) t (h .out)
       unfolding members remainingAncestors elem anyOf
@@ -181,7 +192,7 @@ module _
           ∙ ap (λ (l : List ℕ). ltb a n && (memAt ws t a && not (elem a l))) (append-nil (h .out)))
 
       -- so a round appends them
-      appended : appendFor n (memAt ws) (h .out) (candidate fs ss n (memAt ws) (memAt ds) (h .out)) ≡ h .out ++ sorted (fewerIn ws all) (mem some) (size some) []
+      appended : appendFor n (memAt ws) (h .out) (candidate fs ss n (memAt ws) (memAt ds) (h .out)) ≡ h .out ++ sorted (fewerBy counts) (mem some) (size some) []
       unfolding appendFor
       appended =
           ap (appendFor n (memAt ws) (h .out)) (candidate-is ∙ best-is)
@@ -206,10 +217,10 @@ module _
       module _
           (last : List ℕ)
           (end : ℕ)
-          (app : Appended (fewerIn ws all) some order last len end)
+          (app : Appended (fewerBy counts) some order last len end)
           (kept : length last ≡ length order) where
         new : List ℕ
-        new = sorted (fewerIn ws all) (mem some) (size some) []
+        new = sorted (fewerBy counts) (mem some) (size some) []
 
         front : take len order ≡ h .out
         front = ap (take len) (h .are) ∙ take-at (h .out) (drop len room) len (sym (h .count))
