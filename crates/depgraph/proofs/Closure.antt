@@ -105,6 +105,11 @@ pub close-start : (up down : List ℕ) → Closing up down up down 0
 unfolding reach
 close-start up down = record { ups = refl; downs = refl; holds = λ r h. h }
 
+-- a walk may leave out who gains nothing
+pub joined-as : {walk less extra : TxSet} {old new : List ℕ} → Joined less extra old new
+    → ((i a : ℕ) → (mem less i && mem extra a) ≡ (mem walk i && mem extra a)) → Joined walk extra old new
+joined-as {old = old} j e = record { same = j .same; has = λ i a l. j .has i a l ∙ ap (λ (b : Bool). mem (setAt old i) a || b) (e i a) }
+
 by-way : (r : ℕ → ℕ → Bool) (k : ℕ) (over under : TxSet) {up down up' down' : List ℕ} → over ≡ setAt up k → under ≡ setAt down k
     → Joined under over up up' → Joined over under down down' → Holds (reach r k) up down → Holds (reach r (suc k)) up' down'
 unfolding reach

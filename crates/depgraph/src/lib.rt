@@ -3,9 +3,10 @@
 // operations; each question is one operation then.
 ghost use Prim.Native.Nat.{ℕ, _≤_};
 ghost use lib.ListN.{length, take};
-ghost use mathlib.Core.Bool.{Bool};
+ghost use mathlib.Core.Path.{_≡_};
+ghost use mathlib.Core.Bool.{Bool, _&&_};
 ghost use Rattle.ways.specs.Ways.{reach};
-ghost use Rattle.txset.specs.Sets.{positions};
+ghost use Rattle.txset.specs.Sets.{positions, mem};
 ghost use Rattle.depgraph.specs.Graph.{isParent};
 ghost use Rattle.depgraph.specs.Closed.{Closed};
 ghost use Rattle.depgraph.specs.Steps.{Holds, nothing, Owning};
@@ -71,10 +72,20 @@ fn close(n: usize, ancestors: &mut [u64], descendants: &mut [u64])
     while k < n {
         let above = TxSet::at(ancestors, k);
         let below = TxSet::at(descendants, k);
-        above.join(ancestors, below);
-        below.join(descendants, above);
+        above.join(ancestors, gaining(below, above));
+        below.join(descendants, gaining(above, below));
         k += 1;
     }
+}
+
+// Those of a walk that gain something of a set: none where it is empty, as it is for who has no parents or no children.
+fn gaining(walk: TxSet, set: TxSet) -> TxSet
+    ensures { λ r. ⌜ ((i a : ℕ) → (mem r i && mem set a) ≡ (mem walk i && mem set a)) ⌝ }
+{
+    if set.is_empty() {
+        return set;
+    }
+    walk
 }
 
 // Adds each member to its own sets, and answers whether one was above itself.

@@ -2,7 +2,7 @@ use mathlib.Core.Path.{_≡_}
 use Prim.Native.Nat.{_≤_, _-_}
 use native.Mathlib.Omega.{arith}
 use borrow.Author.Needs.{needs}
-use Rattle.depgraph.proofs.Closure.{Closing, close-start, close-turn}
+use Rattle.depgraph.proofs.Closure.{Closing, joined-as, close-start, close-turn}
 use Rattle.depgraph.proofs.close.Statement.{statement}
 use Rattle.depgraph.proofs.close.Tie as tie
 
@@ -18,8 +18,8 @@ loop-holds c = (search needs, close-start _ _)
 loop-again : tie.Need-loop-again Inv-loop μ-loop
 loop-again c =
     let join-down = c .before .before in
-    let join-up = join-down .before .before .before .before in
-    let at-down = join-up .before .before in
+    let join-up = join-down .before .before .before .before .before in
+    let at-down = join-up .before .before .before in
     let at-up = at-down .before .before in
     let head = at-up .before .before .before in (
       search needs,
@@ -29,8 +29,8 @@ loop-again c =
           (at-down .at2 .result)
           (at-up .at .ensures)
           (at-down .at2 .ensures)
-          (join-up .join .ensures)
-          (join-down .join2 .ensures)
+          (joined-as (join-up .join .ensures) (join-up .before .gaining .ensures))
+          (joined-as (join-down .join2 .ensures) (join-down .before .gaining2 .ensures))
           (head .loop .inv .1),
     )
 
@@ -44,6 +44,8 @@ close-spec =
     Inv-loop
     μ-loop
     loop-holds
+    (λ c κs. search needs)
+    (λ c κs. search needs)
     (λ c κs. search needs)
     (λ c κs. search needs)
     (λ c κs. search needs)
