@@ -128,7 +128,8 @@ module _ (n k : ℕ) (old : Lent) (z : Sized n (old .words) (old .deltas) (old .
 
   -- a line that changes all, and not how many slots there are
   module _ {new : Lent} {len : ℕ} where
-    pub added : (e : Entry) (listed : List ℕ) → Answered n k (add e listed) old new len → Stepped n k (add e listed) old new (record { slots = n; len = len })
+    pub added : (e : Entry) (listed : List ℕ) → Answered n k (add e listed) old new len
+        → Stepped n k (add e listed) old new (record { slots = n; len = len })
     added e listed a =
         record { slots = sym (wiped-length n (old .deltas) in-deltas (addReply (take (wordsFor n) (old .words)) e listed) (pos 0)); answers = a }
 
