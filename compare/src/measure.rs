@@ -90,7 +90,7 @@ impl Times {
 }
 
 /// The nanoseconds that this thread has run, so that what else runs on the machine does not count as time.
-fn clock() -> i64 {
+pub fn clock() -> i64 {
     let mut time = [0; 2];
     // SAFETY: on 64-bit Linux a `timespec` is two `i64`, seconds and nanoseconds, and the call writes that alone.
     let answer = unsafe { clock_gettime(THREAD_CPUTIME, &mut time) };
