@@ -10,12 +10,11 @@ use lib.ListN.{length, take, drop, getD, set, length-append, length-map, length-
 use lib.Seq.{length-take-le, take-suc, take-all, take-at, drop-append-add}
 use lib.IntN.{ℤ, pos}
 use Rattle.lists.specs.Lists.{overwrite}
-use Rattle.slotsets.specs.SlotSets.{capacity}
 use Rattle.feefrac.specs.declared.FeeFrac.{FeeFrac}
 use Rattle.feefrac.specs.Rate.{rateAt}
 use Rattle.feefrac.proofs.Exact.{sumOf}
 use Rattle.chunking.proofs.Orders.{sum-next, sum-take}
-use Rattle.pool_table.specs.Pool.{Pool}
+use Rattle.pool_table.specs.Pool.{Pool, slotCount}
 use Rattle.depgraph.specs.Graph.{isCyclic}
 use Rattle.pool_members.specs.Members.{parentsOf, clusters}
 use Rattle.pool_members.specs.Rows.{Rows}
@@ -283,7 +282,7 @@ rates-at cs fees₀ sizes₀ k l =
 -- all of them
 pub cutting-done : {p : Pool} {ds : List ℤ} {bounds listed₀ starts₀ : List ℕ} {fees₀ : List ℤ} {sizes₀ listed starts : List ℕ} {fees : List ℤ}
     {sizes : List ℕ} {count c : ℕ} → Cutting p ds bounds listed₀ starts₀ fees₀ sizes₀ listed starts fees sizes count c → length (clusters p) ≤ c
-    → count ≤ capacity → AllCut p ds count listed starts fees sizes
+    → count ≤ slotCount p → AllCut p ds count listed starts fees sizes
 unfolding allChunks
 cutting-done {p} {ds} {listed₀ = listed₀} {starts₀ = starts₀} {fees₀ = fees₀} {sizes₀ = sizes₀} {listed = listed} {starts = starts} {c = c} g l few =
     let all : soFar p ds c ≡ allChunks p ds = ap (chunksOver p ds) (take-all c (clusters p) l) in

@@ -9,7 +9,7 @@ use lib.Dec.{eqb}
 use lib.ListN.{length, take, drop, getD}
 use lib.IntN.{ℤ, pos}
 use borrow.Author.Tests.{eqb-true, not-false}
-use Rattle.lists.specs.Lists.{elem}
+use Rattle.lists.specs.Lists.{allOf, elem}
 use Rattle.lists.proofs.Bools.{clash, cond-second}
 use Rattle.lists.proofs.Below.{all-at, none-at}
 use Rattle.lists.proofs.Ranges.{count-le}
@@ -23,9 +23,12 @@ use Rattle.pool_table.specs.WellFormed.{numbersInRange, wellFormed}
 use Rattle.pool_table.proofs.Legal.{few-slots}
 use Rattle.pool_links.proofs.Mutual.{occupied-in}
 use Rattle.pool_rules.proofs.Sound.{Sound, well-legal, well-sound}
+use Rattle.pool_order.specs.Order.{roomy}
+use Rattle.pool_order.proofs.Slots.{roomy-next, roomy-both}
 use Rattle.pool_members.specs.Members.{membersOf, parentsOf, clusters}
 use Rattle.pool_members.specs.Rows.{Rows}
 use Rattle.pool_members.proofs.Rows.{start-within, rows-at, rows-end}
+use Rattle.pool_members.proofs.Laid.{six-wide}
 use Rattle.pool_members.proofs.Members.{Cluster, clusters-few, clusters-members, clusters-each}
 use Rattle.pool_chunks.specs.Sorted.{deltaInRange, badDelta, deltaRefusals}
 use Rattle.pool_chunks.specs.Steps.{Payable, Cuttable}
@@ -39,23 +42,41 @@ pub record Taken (p : Pool) (ds : List ℤ) : Type 0 where
   pub long : length ds ≡ slotCount p
   pub fine : badDelta p ds ≡ false
 
-pub stands : (t : List ℕ) (ds : List ℤ) → answerOf (deltaRefusals t ds) ≡ 0 → wellFormed t ≡ true
-unfolding deltaRefusals answerOf
-stands t ds e = not-false (wellFormed t) (cond-second (not (wellFormed t)) e (λ z. omega arith) .0)
+module _ (stands : Bool) (t : List ℕ) (ds : List ℤ) (e : answerOf (deltaRefusals stands t ds) ≡ 0) where
+  pub stood : stands ≡ true
+  unfolding deltaRefusals answerOf
+  stood = not-false stands (cond-second (not stands) e (λ z. omega arith) .0)
 
-pub taken : (t : List ℕ) (ds : List ℤ) → answerOf (deltaRefusals t ds) ≡ 0 → Taken (poolOf t) ds
+  pub taken : wellFormed t ≡ true → Taken (poolOf t) ds
+  unfolding deltaRefusals answerOf
+  taken well =
+      let a = cond-second (not stands) e (λ z. omega arith) in
+      let b = cond-second (differ (length ds) (slotCount (poolOf t))) (a .1) (λ z. omega arith) in
+      let c = cond-second (badDelta (poolOf t) ds) (b .1) (λ z. omega arith) in
+      record {
+        few = few-slots t (well-legal t well);
+        sound = well-sound t well;
+        long = eqb-true (length ds) (slotCount (poolOf t)) (not-false (eqb (length ds) (slotCount (poolOf t))) (b .0));
+        fine = c .0;
+      }
+
+pub not-stood : (stands : Bool) (t : List ℕ) (ds : List ℤ) → stands ≡ false → 12 ≡ answerOf (deltaRefusals stands t ds)
 unfolding deltaRefusals answerOf
-taken t ds e =
-    let a = cond-second (not (wellFormed t)) e (λ z. omega arith) in
-    let b = cond-second (differ (length ds) (slotCount (poolOf t))) (a .1) (λ z. omega arith) in
-    let c = cond-second (badDelta (poolOf t) ds) (b .1) (λ z. omega arith) in
-    let well = stands t ds e in
-    record {
-      few = few-slots t (well-legal t well);
-      sound = well-sound t well;
-      long = eqb-true (length ds) (slotCount (poolOf t)) (not-false (eqb (length ds) (slotCount (poolOf t))) (b .0));
-      fine = c .0;
-    }
+not-stood stands t ds e = sym (ap (λ (b : Bool). answerOf (deltaRefusals b t ds)) e)
+
+-- ---- the rooms
+
+pub one-wide : {n x : ℕ} → n < x → roomy n (x ∷ []) ≡ true
+unfolding roomy allOf
+one-wide l = roomy-next [] l
+
+pub eight-wide : {n a b c d e f g h : ℕ} → roomy n (a ∷ b ∷ c ∷ d ∷ e ∷ f ∷ g ∷ h ∷ []) ≡ true
+    → (n < a) × (n < b) × (n < c) × (n < d) × (n < e) × (n < f) × (n < g) × (n < h)
+eight-wide q =
+    let u = roomy-both _ q in
+    let v = roomy-both _ (u .1) in
+    let w = six-wide (v .1) in
+    (u .0, v .0, w .0, w .1, w .2, w .3, w .4, w .5)
 
 module _ {p : Pool} {ds : List ℤ} (h : Taken p ds) where
   pub payable : (s : ℕ) → occupied p s ≡ true → Payable p ds s
@@ -85,11 +106,11 @@ module _ {p : Pool} {ds : List ℤ} (h : Taken p ds) where
   map-same f g (x ∷ xs) e = ap₂ _∷_ (e x (elem-head x xs)) (map-same f g xs (λ i m. e i (elem-tail i x xs m)))
 
   cuttable : {ms ups : List ℕ} (from : ℕ) → Cluster p ms → ((s : ℕ) → occupied p s ≡ true → getD ups s 0 ≡ parentsOf p (membersOf p s) s)
-      → from + length ms < 2 ^ 64 → Cuttable p ds ms ups from
-  cuttable {ms} {ups} from c parents fits =
+      → slotCount p < length ups → from + length ms < 2 ^ 64 → Cuttable p ds ms ups from
+  cuttable {ms} {ups} from c parents wide fits =
       record {
         pay = λ i l. payable (getD ms i 0) (cluster-taken p (h .few) (h .sound) c (getD ms i 0) (elem-at ms i l));
-        within = λ i l. omega (arith, h .few, occupied-in p (getD ms i 0) (cluster-taken p (h .few) (h .sound) c (getD ms i 0) (elem-at ms i l)));
+        within = λ i l. omega (arith, wide, occupied-in p (getD ms i 0) (cluster-taken p (h .few) (h .sound) c (getD ms i 0) (elem-at ms i l)));
         parents = map-same (λ s. getD ups s 0) (parentsOf p ms) ms
             (λ s m.
             parents s (cluster-taken p (h .few) (h .sound) c s m)
@@ -101,15 +122,15 @@ module _ {p : Pool} {ds : List ℤ} (h : Taken p ds) where
 
   -- ---- the clusters as they are laid out
 
-  entries-few : entries p ≤ capacity
+  entries-few : entries p ≤ slotCount p
   unfolding entries
-  entries-few = omega (arith, count-le (occupied p) (slotCount p) 0, h .few)
+  entries-few = omega (arith, count-le (occupied p) (slotCount p) 0)
 
-  pub clusters-fit : length (clusters p) ≤ capacity
+  pub clusters-fit : length (clusters p) ≤ slotCount p
   clusters-fit = omega (arith, clusters-few p (h .few) (h .sound), entries-few)
 
   module _ {members bounds : List ℕ} (rows : Rows members bounds (clusters p)) where
-    pub bound-fit : (k : ℕ) → k ≤ length (clusters p) → getD bounds k 0 ≤ capacity
+    pub bound-fit : (k : ℕ) → k ≤ length (clusters p) → getD bounds k 0 ≤ slotCount p
     bound-fit k l = omega (arith, start-within rows k l, rows-end rows, clusters-members p (h .few) (h .sound), entries-few)
 
     -- the members of the c-th
@@ -127,5 +148,6 @@ module _ {p : Pool} {ds : List ℤ} (h : Taken p ds) where
       lent-cluster = rw lent-is (each-at (Cluster p) (clusters p) [] (clusters-each p (h .few) (h .sound)) c l)
 
       pub lent-cuttable : {ups : List ℕ} → ((s : ℕ) → occupied p s ≡ true → getD ups s 0 ≡ parentsOf p (membersOf p s) s)
-          → Cuttable p ds lent ups (getD bounds c 0)
-      lent-cuttable parents = cuttable (getD bounds c 0) lent-cluster parents (omega (arith, next-bound, bound-fit (c + 1) (omega arith)))
+          → slotCount p < length ups → Cuttable p ds lent ups (getD bounds c 0)
+      lent-cuttable parents wide =
+          cuttable (getD bounds c 0) lent-cluster parents wide (omega (arith, next-bound, bound-fit (c + 1) (omega arith), h .few))

@@ -1,18 +1,17 @@
 -- The chunks in arrays and their numbers sorted are what `all_chunks` promises. Assumes nothing.
-use Prim.Native.Nat.{ℕ, _<_}
+use Prim.Native.Nat.{ℕ, _≤_, _<_}
 use native.Mathlib.Omega.{arith}
 use mathlib.Core.Path.{_≡_, ap, _∙_}
 use mathlib.Core.List.{List, _++_, map}
-use lib.ListN.{length, take, getD, List·getD-append}
+use lib.ListN.{length, take, drop, getD, length-append, length-drop, List·getD-append}
 use lib.Seq.{take-at}
 use lib.IntN.{ℤ}
 use Rattle.lists.proofs.Lists.{each-at}
-use Rattle.slotsets.specs.SlotSets.{capacity}
 use Rattle.sorting.specs.Sorting.{sortedBy}
 use Rattle.sorting.proofs.Insertion.{length-sort}
 use Rattle.feefrac.specs.declared.FeeFrac.{FeeFrac}
 use Rattle.feefrac.specs.Rate.{rateAt}
-use Rattle.pool_table.specs.Pool.{Pool}
+use Rattle.pool_table.specs.Pool.{Pool, slotCount}
 use Rattle.pool_chunks.specs.Chunks.{allChunks, tried}
 use Rattle.pool_chunks.specs.Sorted.{noChunk, chunkAt}
 use Rattle.pool_chunks.specs.Numbers.{paysFirst, upwards, Rated}
@@ -20,6 +19,10 @@ use Rattle.pool_chunks.specs.Steps.{AllCut}
 use Rattle.pool_chunks.proofs.Order.{upwards-many, sorted-within, tried-numbers}
 use Rattle.pool_chunks.proofs.Theorems.{Proper, chunks-proper}
 use Rattle.pool_chunks.proofs.Laid.{Taken}
+
+-- a start that was lent is as long when it is back
+pub back-long : {r : ℕ} (part old : List ℕ) → length part ≡ r → r ≤ length old → length (part ++ drop r old) ≡ length old
+back-long {r} part old e l = omega (arith, length-append part (drop r old), length-drop r old)
 
 module _
     {p : Pool}
@@ -40,8 +43,8 @@ module _
         each-at (Proper p) (allChunks p ds) noChunk (chunks-proper p (h .few) (h .sound) ds) c (omega (arith, a .many)) .sized,
       )
 
-  pub rated : length fees ≡ capacity → length sizes ≡ capacity → Rated count fees sizes
-  rated f s = record { few = a .few; fees = omega (arith, a .few); sizes = omega (arith, a .few); above = size-above }
+  pub rated : slotCount p < length fees → slotCount p < length sizes → Rated count fees sizes
+  rated f s = record { fees = omega (arith, a .few); sizes = omega (arith, a .few); above = size-above }
 
   -- the numbers of the chunks, sorted, at the start of the order
   module _ {n : ℕ} {part : List ℕ} (as-many : n ≡ count) (told : part ≡ sortedBy (paysFirst fees sizes) (upwards n)) (rest : List ℕ) where

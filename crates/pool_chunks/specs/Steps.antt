@@ -6,16 +6,15 @@ use mathlib.Core.List.{List, [], _∷_, map}
 use lib.ListN.{length, getD}
 use lib.IntN.{ℤ, pos}
 use Rattle.txset.specs.Sets.{positions}
-use Rattle.slotsets.specs.SlotSets.{capacity}
 use Rattle.feefrac.specs.declared.FeeFrac.{FeeFrac}
 use Rattle.feefrac.specs.Rate.{rateAt}
 use Rattle.feeset.specs.Total.{total}
 use Rattle.refusals.specs.Refusals.{anyOutside}
 use Rattle.depgraph.specs.Graph.{isCyclic}
 use Rattle.chunking.specs.Orders.{cut}
-use Rattle.pool_table.specs.Pool.{Pool, slotAt}
+use Rattle.pool_table.specs.Pool.{Pool, slotAt, slotCount, occupied}
 use Rattle.pool_table.specs.Ranges.{entryInRange}
-use Rattle.pool_members.specs.Members.{parentsOf}
+use Rattle.pool_members.specs.Members.{membersOf, parentsOf, clusters}
 use Rattle.pool_members.specs.Rows.{Rows}
 use Rattle.pool_chunks.specs.Chunks.{feeOf, feesOf, sizeOf, sizesOf, orderOf, partsOf, allChunks}
 use Rattle.pool_chunks.specs.Sorted.{deltaInRange, chunkAt, slotLists}
@@ -63,7 +62,7 @@ sizeSums fs ss order lens = map (λ is. total fs ss is .size) (cut lens order)
 -- a cluster `ms` as `cut_cluster` takes it: `ups` has its members' parents by slot, and there is no cycle among them
 pub record Cuttable (p : Pool) (ds : List ℤ) (ms ups : List ℕ) (from : ℕ) : Type 0 where
   pub pay : AllPayable p ds ms
-  pub within : (i : ℕ) → i < length ms → getD ms i 0 < capacity
+  pub within : (i : ℕ) → i < length ms → getD ms i 0 < length ups
   pub parents : map (λ s. getD ups s 0) ms ≡ map (parentsOf p ms) ms
   pub few : length ms ≤ positions
   pub acyclic : isCyclic (map (parentsOf p ms) ms) ≡ false
@@ -82,9 +81,24 @@ feesIn p ds ms = map (λ is. total (feesOf p ds ms) (sizesOf p ms) is .fee) (par
 abbrev pub sizesIn : Pool → List ℤ → List ℕ → List ℕ
 sizesIn p ds ms = map (λ is. total (feesOf p ds ms) (sizesOf p ms) is .size) (partsOf p ds ms)
 
+-- the clusters of a pool in arrays, and the parents by slot
+pub record Laying (p : Pool) (count : ℕ) (members bounds ups : List ℕ) : Type 0 where
+  pub many : count ≡ length (clusters p)
+  pub rows : Rows members bounds (clusters p)
+  pub parents : (s : ℕ) → occupied p s ≡ true → getD ups s 0 ≡ parentsOf p (membersOf p s) s
+  pub in-bounds : slotCount p < length bounds
+  pub in-ups : slotCount p < length ups
+
+-- rooms for the chunks: each has more places than the pool has slots
+pub record Rooms (p : Pool) (listed starts : List ℕ) (fees : List ℤ) (sizes : List ℕ) : Type 0 where
+  pub in-listed : slotCount p < length listed
+  pub in-starts : slotCount p < length starts
+  pub in-fees : slotCount p < length fees
+  pub in-sizes : slotCount p < length sizes
+
 -- the chunks of all clusters stand in four rooms, one after the other
 pub record AllCut (p : Pool) (ds : List ℤ) (count : ℕ) (listed starts : List ℕ) (fees : List ℤ) (sizes : List ℕ) : Type 0 where
   pub many : count ≡ length (allChunks p ds)
-  pub few : count ≤ capacity
+  pub few : count ≤ slotCount p
   pub rows : Rows listed starts (slotLists (allChunks p ds))
   pub rates : (c : ℕ) → c < count → rateAt fees sizes c ≡ chunkAt (allChunks p ds) c .rate

@@ -5,44 +5,39 @@ ghost use mathlib.Core.List.{map};
 ghost use Prim.Native.Nat.{ℕ, suc, _≤_, _<_, _^_};
 ghost use lib.ListN.{length, getD};
 ghost use Rattle.lists.specs.Lists.{overwrite};
-ghost use Rattle.slotsets.specs.SlotSets.{capacity};
 ghost use Rattle.refusals.specs.Refusals.{answerOf};
 ghost use Rattle.linearize.specs.Linearize.{linearOrder};
 ghost use Rattle.linearize.specs.Cases.{clusterChunks};
 ghost use Rattle.pool_table.specs.Words.{poolOf};
-ghost use Rattle.pool_members.specs.Layout.{LaidOut};
+ghost use Rattle.pool_table.specs.WellFormed.{wellFormed};
 ghost use Rattle.pool_chunks.specs.Chunks.{feesOf, sizesOf, partsOf};
-ghost use Rattle.pool_chunks.specs.Steps.{slotRate, Payable, AllPayable, Answered, endsFrom, lastEnd, feeSums, sizeSums};
-ghost use Rattle.pool_chunks.specs.Steps.{Cuttable, slotsIn, endsIn, feesIn, sizesIn, AllCut};
 ghost use Rattle.pool_chunks.specs.Sorted.{deltaRefusals};
+ghost use Rattle.pool_chunks.specs.Steps.{slotRate, Payable, AllPayable, Answered, endsFrom, lastEnd, feeSums, sizeSums};
+ghost use Rattle.pool_chunks.specs.Steps.{Laying, Rooms, Cuttable, slotsIn, endsIn, feesIn, sizesIn, AllCut};
 use feefrac::FeeFrac;
-use pool_members::Layout;
 use pool_table::Entry;
 use pool_table::Limits;
-use slotsets::CAPACITY;
 use txset::POSITIONS;
 
 // Writes the chunks of all clusters, one cluster after the other; says how many they are.
 pub fn cut_all(
     table: &[u64],
     deltas: &[i64],
-    layout: Layout,
+    clusters: usize,
+    members: &[usize],
+    bounds: &[usize],
+    ups: &[u64],
     listed: &mut [usize],
     starts: &mut [usize],
     fees: &mut [i64],
     sizes: &mut [u64],
 ) -> usize
-    requires { ⌜ answerOf (deltaRefusals (now table) (now deltas)) ≡ 0 ⌝ }
-    requires { ⌜ LaidOut (poolOf (now table)) layout ⌝ }
-    requires { ⌜ (length (now listed) ≡ capacity) × (length (now starts) ≡ suc capacity) ⌝ }
-    requires { ⌜ (length (now fees) ≡ capacity) × (length (now sizes) ≡ capacity) ⌝ }
+    requires { ⌜ answerOf (deltaRefusals (wellFormed (now table)) (now table) (now deltas)) ≡ 0 ⌝ }
+    requires { ⌜ Laying (poolOf (now table)) clusters (now members) (now bounds) (now ups) ⌝ }
+    requires { ⌜ Rooms (poolOf (now table)) (now listed) (now starts) (now fees) (now sizes) ⌝ }
     ensures { λ r. ⌜ AllCut (poolOf (now (table .entry))) (now (deltas .entry)) r
         (now (listed .exit)) (now (starts .exit)) (now (fees .exit)) (now (sizes .exit)) ⌝ }
 {
-    let members = layout.members;
-    let bounds = layout.bounds;
-    let ups = layout.ups;
-    let clusters = layout.count;
     starts[0] = 0;
     let mut count: usize = 0;
     let mut c: usize = 0;
@@ -55,7 +50,7 @@ pub fn cut_all(
             table,
             deltas,
             &members[from..to],
-            &ups,
+            ups,
             from,
             &mut listed[from..],
             &mut starts[next..],
@@ -73,7 +68,7 @@ fn cut_cluster(
     table: &[u64],
     deltas: &[i64],
     members: &[usize],
-    ups: &[u64; CAPACITY],
+    ups: &[u64],
     from: usize,
     listed: &mut [usize],
     ends: &mut [usize],
@@ -166,8 +161,8 @@ fn gather_rates(
 }
 
 // The parents of a cluster's members, as positions.
-fn gather_parents(members: &[usize], ups: &[u64; CAPACITY], parents: &mut [u64])
-    requires { ⌜ ((i : ℕ) → i < length (now members) → getD (now members) i 0 < capacity) ⌝ }
+fn gather_parents(members: &[usize], ups: &[u64], parents: &mut [u64])
+    requires { ⌜ ((i : ℕ) → i < length (now members) → getD (now members) i 0 < length (now ups)) ⌝ }
     requires { ⌜ length (now members) ≤ length (now parents) ⌝ }
     ensures { λ _. ⌜ now (parents .exit) ≡ overwrite (map (λ s. getD (now (ups .entry)) s 0) (now (members .entry))) (now (parents .entry)) ⌝ }
 {

@@ -4,13 +4,11 @@ ghost use lib.ListN.{length};
 ghost use Rattle.refusals.specs.Refusals.{answerOf};
 ghost use Rattle.pool_table.specs.Pool.{slotCount};
 ghost use Rattle.pool_table.specs.Words.{poolOf};
-ghost use Rattle.pool_table.specs.WellFormed.{wellFormed};
 ghost use Rattle.pool_chunks.specs.Sorted.{deltaInRange, badDelta, deltaRefusals};
 
-// The first refusal; `stands` says whether the table is well-formed.
+// The first refusal; `stands` says whether the table does.
 pub fn refusal(table: &[u64], deltas: &[i64], stands: bool) -> u64
-    requires { ⌜ stands ≡ wellFormed (now table) ⌝ }
-    ensures { λ r. ⌜ r ≡ answerOf (deltaRefusals (now (table .entry)) (now (deltas .entry))) ⌝ }
+    ensures { λ r. ⌜ r ≡ answerOf (deltaRefusals stands (now (table .entry)) (now (deltas .entry))) ⌝ }
 {
     if !stands {
         return refusals::TABLE_ILL_FORMED;

@@ -1,9 +1,9 @@
 -- What the steps of laying out give in a well-formed table: the slots of a cluster's ranks are its members by txid, and the places of a
 -- member's parents are the word of its parents. Assumes nothing.
-use mathlib.Core.Path.{_≡_, refl, sym, ap, ap₂, _∙_}
-use mathlib.Core.Bool.{Bool, true, cond, _&&_}
+use mathlib.Core.Path.{_≡_, sym, ap, ap₂, _∙_}
+use mathlib.Core.Bool.{Bool, true, false, _&&_}
 use mathlib.Core.Logic.{⊎-elim}
-use mathlib.Core.List.{List, map}
+use mathlib.Core.List.{List, [], _∷_, _++_, map}
 use Prim.Native.Nat.{ℕ, _≤_, _<_, _^_}
 use native.Mathlib.Omega.{arith}
 use lib.Dec.{ltb}
@@ -11,7 +11,7 @@ use lib.ListN.{length, getD, take, drop}
 use lib.Seq.{take-at}
 use borrow.Author.Tests.{lt-ltb, ltb-true}
 use Rattle.lists.specs.Lists.{elem, overwrite}
-use Rattle.lists.proofs.Bools.{clash, and-left, asked, true-together}
+use Rattle.lists.proofs.Bools.{clash, and-left, and-both, asked, true-together}
 use Rattle.lists.proofs.Numbers.{lt-or-ge}
 use Rattle.lists.proofs.Ranges.{list-below}
 use Rattle.lists.proofs.Lists.{each-at, elem-at}
@@ -21,7 +21,7 @@ use Rattle.txset.proofs.Theorems.{set-ext}
 use Rattle.slotsets.specs.SlotSets.{capacity}
 use Rattle.slotsets.proofs.SlotSets.{none-has}
 use Rattle.pool_table.specs.declared.Side.the-variants.{Parents}
-use Rattle.pool_table.specs.Pool.{Slot, slotAt, slotCount, occupied, entries}
+use Rattle.pool_table.specs.Pool.{Slot, slotAt, slotCount, occupied}
 use Rattle.pool_table.specs.Words.{isLegal, poolOf}
 use Rattle.pool_table.specs.Links.{isParent, inCluster}
 use Rattle.pool_table.specs.WellFormed.{wellFormed}
@@ -29,14 +29,43 @@ use Rattle.pool_table.proofs.Legal.{few-slots}
 use Rattle.pool_table.proofs.Rows.{slot-past}
 use Rattle.pool_links.proofs.Mutual.{parent-parts, is-parent, occupied-in, named-in}
 use Rattle.pool_rules.proofs.Sound.{Sound, well-legal, well-sound}
-use Rattle.pool_order.specs.Order.{slotsByTxid, hasPlaces, slotsWritten, orderAfter}
-use Rattle.pool_order.proofs.Slots.{sorted-many, sorted-below, count-within, places-enough}
+use Rattle.pool_order.specs.Order.{slotsByTxid, roomy, standsIn}
+use Rattle.pool_order.specs.Packed.{unpacked, Standing}
+use Rattle.pool_order.proofs.Slots.{entries-within, sorted-many, sorted-below, count-within, order-written, roomy-append, roomy-both}
 use Rattle.pool_clusters.proofs.Theorems.{cluster-occupied}
 use Rattle.pool_members.specs.Members.{membersOf, parentsOf}
 use Rattle.pool_members.specs.Steps.{Ranked, isRank, chosenOf, Closed}
 use Rattle.pool_members.proofs.Only.{only-places}
 use Rattle.pool_members.proofs.Members.{slots-are, parent-has, parents-fit}
 use Rattle.pool_members.proofs.Ranks.{ranks-are}
+
+-- ---- the rooms, and whether the table stands
+
+pub six-wide : {n a b c d e f : ℕ} → roomy n (a ∷ b ∷ c ∷ d ∷ e ∷ f ∷ []) ≡ true → (n < a) × (n < b) × (n < c) × (n < d) × (n < e) × (n < f)
+six-wide h =
+    let u = roomy-both _ h in
+    let v = roomy-both _ (u .1) in
+    let w = roomy-both _ (v .1) in
+    let x = roomy-both _ (w .1) in
+    let y = roomy-both _ (x .1) in
+    let z = roomy-both _ (y .1) in
+    (u .0, v .0, w .0, x .0, y .0, z .0)
+
+module _ (t xs ys : List ℕ) where
+  rooms-apart : standsIn t (xs ++ ys) ≡ ((roomy (slotCount (poolOf t)) xs && roomy (slotCount (poolOf t)) ys) && wellFormed t)
+  unfolding standsIn
+  rooms-apart = ap (λ (b : Bool). b && wellFormed t) (roomy-append (slotCount (poolOf t)) xs ys)
+
+  pub stands-short : roomy (slotCount (poolOf t)) xs ≡ false → false ≡ standsIn t (xs ++ ys)
+  stands-short e = sym (rooms-apart ∙ ap (λ (b : Bool). (b && roomy (slotCount (poolOf t)) ys) && wellFormed t) e)
+
+  pub stands-rest : roomy (slotCount (poolOf t)) xs ≡ true → standsIn t (xs ++ ys) ≡ standsIn t ys
+  unfolding standsIn
+  stands-rest e = rooms-apart ∙ ap (λ (b : Bool). (b && roomy (slotCount (poolOf t)) ys) && wellFormed t) e
+
+pub stands-both : (t rooms : List ℕ) → standsIn t rooms ≡ true → (roomy (slotCount (poolOf t)) rooms ≡ true) × (wellFormed t ≡ true)
+unfolding standsIn
+stands-both t rooms e = and-both (roomy (slotCount (poolOf t)) rooms) (wellFormed t) e
 
 module _ (t : List ℕ) (well : wellFormed t ≡ true) where
   pub few : slotCount (poolOf t) ≤ capacity
@@ -53,18 +82,24 @@ module _ (t : List ℕ) (well : wellFormed t ≡ true) where
   pub slots-below : (k : ℕ) → k < length (slotsByTxid (poolOf t)) → getD (slotsByTxid (poolOf t)) k 0 < capacity
   slots-below k l = each-at (λ s. s < capacity) (slotsByTxid (poolOf t)) 0 (sorted-below (poolOf t) few) k l
 
-  -- the order that was written
-  module _ (n : ℕ) (old new : List ℕ) (room : length old ≡ capacity) (many : n ≡ slotsWritten t (length old)) (written : new ≡ orderAfter t old) where
-    enough : hasPlaces t (length old) ≡ true
-    enough = places-enough t (length old) (well-legal t well) (omega (arith, count-within t (well-legal t well) refl))
+  pub slots-in : (k : ℕ) → k < length (slotsByTxid (poolOf t)) → getD (slotsByTxid (poolOf t)) k 0 < slotCount (poolOf t)
+  slots-in k l =
+      let xs = slotsByTxid (poolOf t) in
+      occupied-in (poolOf t) (getD xs k 0) (sym (slots-are (poolOf t) (getD xs k 0)) ∙ elem-at xs k l)
 
+  -- the slots that were packed by txid, and the order that they were unpacked to
+  module _ {n : ℕ} {old keys : List ℕ} (packed : Standing (poolOf t) n old keys) where
     pub order-many : n ≡ length (slotsByTxid (poolOf t))
-    order-many = many ∙ ap (λ (b : Bool). cond b (entries (poolOf t)) 0) enough ∙ sym (sorted-many (poolOf t))
+    order-many = packed .many ∙ sym (sorted-many (poolOf t))
 
-    pub order-is : take n new ≡ slotsByTxid (poolOf t)
-    order-is =
+    pub order-fits : n ≤ slotCount (poolOf t)
+    order-fits = omega (arith, packed .many, entries-within (poolOf t))
+
+    pub order-is : (order : List ℕ) {new : List ℕ} → new ≡ overwrite (map unpacked (take n keys)) order → take n new ≡ slotsByTxid (poolOf t)
+    order-is order e =
         let xs = slotsByTxid (poolOf t) in
-        ap (take n) (written ∙ ap (λ (b : Bool). cond b (overwrite xs old) old) enough) ∙ take-at xs (drop (length xs) old) n (sym order-many)
+        ap (take n) (e ∙ order-written t keys old (well-legal t well) (packed .many) order (packed .are))
+        ∙ take-at xs (drop (length xs) order) n (sym order-many)
 
   module _
       (s : ℕ)
@@ -85,6 +120,10 @@ module _ (t : List ℕ) (well : wellFormed t ≡ true) where
     found-all i =
         ap (λ (b : Bool). ltb i capacity && b) (found-is i)
         ∙ asked (ltb i capacity) (inCluster (poolOf t) s i) (λ e. lt-ltb i capacity (omega (arith, occupied-in (poolOf t) i (found-taken i e), few)))
+
+    -- each of them is one of the slots
+    pub found-in : (i : ℕ) → hasIn set i ≡ true → i < slotCount (poolOf t)
+    found-in i e = occupied-in (poolOf t) i (found-taken i (sym (found-is i) ∙ e))
 
     module _
         (ranks among : List ℕ)
@@ -124,6 +163,9 @@ module _ (t : List ℕ) (well : wellFormed t ≡ true) where
       is-parent p s a l (named-in t (sound .links) Parents s a l e) e)
       (λ e. parent-parts p s a e .2)
 
+  pub parent-in : (s a : ℕ) → hasIn (slotAt (poolOf t) s .parents) a ≡ true → a < slotCount (poolOf t)
+  parent-in s a e = parent-parts (poolOf t) s a (sym (parent-is s a) ∙ e) .1
+
   pub parents-word : (ms places : List ℕ) (s w : ℕ) → Closed (poolOf t) ms → Ranked ms places → elem s ms ≡ true → w < 2 ^ positions
       → ((i : ℕ) → mem (record { word = w }) i ≡ (isPosition i && isRank places (hasIn (slotAt (poolOf t) s .parents)) i))
       → w ≡ parentsOf (poolOf t) ms s
@@ -134,7 +176,7 @@ module _ (t : List ℕ) (well : wellFormed t ≡ true) where
       (λ i.
       told i
       ∙ ap (λ (b : Bool). isPosition i && b)
-      (ranks-are ms places (hasIn (slotAt p s .parents)) ranked (λ k l. closed .below (getD ms k 0) (elem-at ms k l))
+      (ranks-are ms places (hasIn (slotAt p s .parents)) ranked (λ k l. omega (arith, few, closed .below (getD ms k 0) (elem-at ms k l)))
       (λ a e. closed .parents s a m (sym (parent-is s a) ∙ e)) i
       ∙ ap (λ (b : Bool). ltb i (length ms) && b) (parent-is s (getD ms i 0)))
       ∙ asked (isPosition i) (ltb i (length ms) && isParent p s (getD ms i 0))

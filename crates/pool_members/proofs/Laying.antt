@@ -27,7 +27,7 @@ use Rattle.pool_order.proofs.Theorems.{slots-once}
 use Rattle.pool_clusters.proofs.Theorems.{together-cluster, parent-cluster, cluster-same, cluster-occupied}
 use Rattle.pool_members.specs.Members.{membersOf, parentsOf, leadOf, clusters}
 use Rattle.pool_members.specs.Rows.{Rows}
-use Rattle.pool_members.specs.Layout.{Places}
+use Rattle.pool_members.specs.Layout.{LaidOut}
 use Rattle.pool_members.specs.Steps.{StoredAt, Closed, Rooms}
 use Rattle.pool_members.proofs.Only.{elem-only, only-append, only-first, length-only, place-of, in-flatten, flatten-in, flatten-append, flatten-snoc}
 use Rattle.pool_members.proofs.Members.{slots-are, member-is, member-parts, members-once, members-same, own-member, members-few, lead-member}
@@ -81,7 +81,7 @@ module _ (p : Pool) (few : slotCount p ≤ capacity) (sound : Sound p) where
       record {
         once = members-once p s;
         few = members-few p few sound s o;
-        below = λ x m. omega (arith, occupied-in p x (member-parts p s x m .0));
+        below = λ x m. occupied-in p x (member-parts p s x m .0);
         parents =
             λ x a m e.
             let in′ = cluster-same p few (sound .links) s x (member-parts p s x m .1) a ∙ parent-cluster p x a e in
@@ -173,14 +173,13 @@ pub record Laying (p : Pool) (parts : List (List ℕ)) (members bounds firsts up
   pub ends : end ≡ getD bounds (length parts) 0
   pub known : (x : ℕ) → hasIn seen x ≡ elem x (flatten parts)
   pub placed : (s : ℕ) → elem s (flatten parts) ≡ true → Placed p members firsts ups end s
-  pub rooms : Rooms members bounds firsts ups
-  pub places-long : length places ≡ capacity
+  pub rooms : Rooms p members bounds firsts ups places
   pub seen-long : length seen ≡ setWords
 
-pub laying-start : (p : Pool) {members bounds firsts ups : List ℕ} (places seen : List ℕ) → Rooms members bounds firsts ups → length places ≡ capacity
+pub laying-start : (p : Pool) {members bounds firsts ups places : List ℕ} (seen : List ℕ) → Rooms p members bounds firsts ups places
     → length seen ≡ setWords → ((x : ℕ) → hasIn seen x ≡ false) → Laying p (laid p 0) members bounds firsts ups places seen 0 0
 unfolding laid only flatten elem anyOf
-laying-start p {members} {bounds} places seen rooms lp ls none =
+laying-start p {members} {bounds} seen rooms ls none =
     record {
       rows = rows-start members bounds (rooms .start);
       counted = refl;
@@ -188,7 +187,6 @@ laying-start p {members} {bounds} places seen rooms lp ls none =
       known = none;
       placed = λ s e. clash e refl;
       rooms = rooms;
-      places-long = lp;
       seen-long = ls;
     }
 
@@ -202,27 +200,26 @@ module _
     (i : ℕ)
     (l : length (slotsByTxid p) ≤ i)
     (h : Laying p (laid p i) members bounds firsts ups places seen count end) where
-  pub laying-count : count ≡ length (clusters p)
-  laying-count = h .counted ∙ ap length (laid-all p i l)
-
-  pub laying-rows : Rows members bounds (clusters p)
-  laying-rows = subst (Rows members bounds) (laid-all p i l) (h .rows)
-
-  pub laying-places : Places p members firsts ups
-  laying-places =
+  pub laying-done : LaidOut p count members bounds firsts ups
+  laying-done =
       let all : (s : ℕ) → occupied p s ≡ true → Placed p members firsts ups end s =
       λ s o. h .placed s (ap (λ (xss : List (List ℕ)). elem s (flatten xss)) (laid-all p i l) ∙ clusters-elem p few sound s ∙ o) in
-      record { cluster = λ s o. all s o .cluster; parents = λ s o. all s o .parents }
+      record {
+        many = h .counted ∙ ap length (laid-all p i l);
+        rows = subst (Rows members bounds) (laid-all p i l) (h .rows);
+        places = record { cluster = λ s o. all s o .cluster; parents = λ s o. all s o .parents };
+      }
 
 -- what is written when the cluster of s is laid out, and what stays
-pub record Added (p : Pool) (s : ℕ) (members firsts ups seen : List ℕ) (end : ℕ) (members′ firsts′ ups′ places′ seen′ : List ℕ) (e : ℕ) : Type 0 where
+pub record Added (p : Pool) (s : ℕ) (members firsts ups places seen : List ℕ) (end : ℕ) (members′ firsts′ ups′ places′ seen′ : List ℕ) (e : ℕ)
+    : Type 0 where
   pub total : e ≡ end + length (membersOf p s)
   pub long : length members′ ≡ length members
   pub kept : take end members′ ≡ take end members
   pub here : take (length (membersOf p s)) (drop end members′) ≡ membersOf p s
   pub starts : StoredAt (membersOf p s) (λ k. end) firsts firsts′
   pub parents : StoredAt (membersOf p s) (λ k. parentsOf p (membersOf p s) (getD (membersOf p s) k 0)) ups ups′
-  pub places-long : length places′ ≡ capacity
+  pub places-long : length places′ ≡ length places
   pub seen-long : length seen′ ≡ setWords
   pub told : (x : ℕ) → hasIn seen′ x ≡ (hasIn seen x || inCluster p s x)
 
@@ -237,7 +234,7 @@ module _
     (few : slotCount p ≤ capacity)
     (sound : Sound p)
     (h : Laying p parts members bounds firsts ups places seen count end)
-    (u : Added p s members firsts ups seen end members′ firsts′ ups′ places′ seen′ e)
+    (u : Added p s members firsts ups places seen end members′ firsts′ ups′ places′ seen′ e)
     (taken : occupied p s ≡ true)
     (apart : (x : ℕ) → elem x (flatten parts) ≡ true → elem x (membersOf p s) ≡ false)
     (room : e ≤ length members)
@@ -302,13 +299,13 @@ module _
             (in-append x (flatten parts) (membersOf p s) (ap (elem x) (sym (flatten-snoc parts (membersOf p s))) ∙ m));
         rooms =
             record {
-              members-long = u .long ∙ h .rooms .members-long;
-              bounds-long = length-set bounds (count + 1) e ∙ h .rooms .bounds-long;
-              firsts-long = u .starts .long ∙ h .rooms .firsts-long;
-              ups-long = u .parents .long ∙ h .rooms .ups-long;
+              in-members = omega (arith, u .long, h .rooms .in-members);
+              in-bounds = omega (arith, length-set bounds (count + 1) e, h .rooms .in-bounds);
+              in-firsts = omega (arith, u .starts .long, h .rooms .in-firsts);
+              in-ups = omega (arith, u .parents .long, h .rooms .in-ups);
+              in-places = omega (arith, u .places-long, h .rooms .in-places);
               start = more-rows .first;
             };
-        places-long = u .places-long;
         seen-long = u .seen-long;
       }
 
@@ -348,7 +345,7 @@ module _
         omega (
           arith,
           h .ends,
-          h .rooms .members-long,
+          h .rooms .in-members,
           rows-end (h .rows),
           laid-members p few sound (i + 1),
           ap (λ (xss : List (List ℕ)). length (flatten xss)) next,
@@ -357,20 +354,22 @@ module _
           entries-within p,
         )
 
-    pub laying-bound : count + 1 < length bounds
-    laying-bound =
+    pub laying-few : count + 1 ≤ slotCount p
+    laying-few =
         omega (
           arith,
           h .counted,
-          h .rooms .bounds-long,
           laid-count p (i + 1),
           ap length next,
           length-append (laid p i) (membersOf p s ∷ []),
           entries-within p,
         )
 
+    pub laying-bound : count + 1 < length bounds
+    laying-bound = omega (arith, laying-few, h .rooms .in-bounds)
+
     pub laying-more : {members′ firsts′ ups′ places′ seen′ : List ℕ} {e : ℕ}
-        → Added p s members firsts ups seen end members′ firsts′ ups′ places′ seen′ e
+        → Added p s members firsts ups places seen end members′ firsts′ ups′ places′ seen′ e
         → Laying p (laid p (i + 1)) members′ (set bounds (count + 1) e) firsts′ ups′ places′ seen′ (count + 1) e
     laying-more {members′} {firsts′} {ups′} {places′} {seen′} {e} u =
         subst (λ (parts : List (List ℕ)). Laying p parts members′ (set bounds (count + 1) e) firsts′ ups′ places′ seen′ (count + 1) e) (sym next)

@@ -1,15 +1,14 @@
 // Parents as positions in their cluster: modules 4 to 7 take a word for each member.
 ghost use mathlib.Core.Path.{_≡_};
 ghost use mathlib.Core.Bool.{true, _&&_};
-ghost use Prim.Native.Nat.{ℕ};
+ghost use Prim.Native.Nat.{ℕ, _<_};
 ghost use lib.ListN.{length, getD};
 ghost use Rattle.txset.specs.Sets.{mem, isPosition, hasIn};
-ghost use Rattle.slotsets.specs.SlotSets.{capacity};
-ghost use Rattle.pool_table.specs.Pool.{slotAt};
+ghost use Rattle.pool_table.specs.Pool.{slotAt, slotCount};
 ghost use Rattle.pool_table.specs.Words.{poolOf};
 ghost use Rattle.pool_table.specs.WellFormed.{wellFormed};
 ghost use Rattle.pool_members.specs.Members.{parentsOf};
-ghost use Rattle.pool_members.specs.Steps.{StoredAt, isRank, Closed};
+ghost use Rattle.pool_members.specs.Steps.{StoredAt, Within, isRank, Closed};
 use crate::listing::rank_all;
 use pool_table::Side;
 use slotsets::CAPACITY;
@@ -29,8 +28,8 @@ pub fn note_all(
 )
     requires { ⌜ wellFormed (now table) ≡ true ⌝ }
     requires { ⌜ Closed (poolOf (now table)) (now members) ⌝ }
-    requires { ⌜ (length (now places) ≡ capacity) × (length (now firsts) ≡ capacity) × (length (now ups) ≡ capacity) ⌝ }
-    ensures { λ _. ⌜ length (now (places .exit)) ≡ capacity ⌝ }
+    requires { ⌜ (slotCount (poolOf (now table)) < length (now places)) ⌝ }
+    requires { ⌜ (slotCount (poolOf (now table)) < length (now firsts)) × (slotCount (poolOf (now table)) < length (now ups)) ⌝ }
     ensures { λ _. ⌜ StoredAt (now (members .entry)) (λ k. first) (now (firsts .entry)) (now (firsts .exit)) ⌝ }
     ensures { λ _. ⌜ StoredAt (now (members .entry))
         (λ k. parentsOf (poolOf (now (table .entry))) (now (members .entry)) (getD (now (members .entry)) k 0))
@@ -49,7 +48,7 @@ pub fn note_all(
 
 // The places of the parents of slot s.
 fn parents_at(table: &[u64], s: usize, places: &[usize]) -> TxSet
-    requires { ⌜ length (now places) ≡ capacity ⌝ }
+    requires { ⌜ Within (slotAt (poolOf (now table)) s .parents) (now places) ⌝ }
     ensures { λ r. ⌜ ((i : ℕ) → mem r i
         ≡ (isPosition i && isRank (now (places .entry)) (hasIn (slotAt (poolOf (now (table .entry))) s .parents)) i)) ⌝ }
 {

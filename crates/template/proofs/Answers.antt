@@ -1,28 +1,31 @@
 -- The refusals of the call in their order, by the answer `k` that the table and the deltas get by themselves, and its answer. Assumes nothing.
 use mathlib.Core.Path.{_≡_, refl, sym, ap, ap₂, _∙_}
 use mathlib.Core.Bool.{Bool, true, false, cond, not, _||_}
-use mathlib.Core.List.{List}
+use mathlib.Core.List.{List, [], _∷_}
 use Prim.Native.Nat.{ℕ, _≤_, _<_}
 use native.Mathlib.Omega.{arith}
-use lib.ListN.{length, take, length-take}
+use lib.Dec.{ltb}
+use lib.ListN.{length, take}
 use lib.IntN.{ℤ}
-use borrow.Author.Tests.{eq-eqb, ne-eqb, lt-ltb, le-ltb, not-false}
-use Rattle.lists.proofs.Bools.{and-right}
+use borrow.Author.Tests.{eq-eqb, ne-eqb, lt-ltb, le-ltb, ltb-false, not-false}
+use Rattle.lists.proofs.Bools.{and-right, or-left, asked, cond-second}
 use Rattle.lists.specs.Lists.{overwrite}
+use Rattle.lists.proofs.Lists.{Each}
 use Rattle.refusals.specs.declared.Reply.{Reply}
 use Rattle.refusals.specs.Refusals.{differ, answerOf, refusal, success}
-use Rattle.refusals.proofs.Lines.{Past, Gives, Takes, none-past, past, stop, all-past, refuses, succeeds, keeps, writes}
+use Rattle.refusals.proofs.Lines.{Past, Gives, Takes, none-past, past, stop, refuses, succeeds, keeps, writes}
 use Rattle.pool_table.specs.Pool.{slotCount, entries}
 use Rattle.pool_table.specs.Words.{isLegal, poolOf}
 use Rattle.pool_table.specs.WellFormed.{sound, wellFormed}
 use Rattle.pool_table.proofs.Legal.{few-slots}
 use Rattle.pool_rules.proofs.Sound.{well-legal}
-use Rattle.pool_chunks.specs.declared.Chunks.{Chunks}
-use Rattle.pool_chunks.specs.Sorted.{badDelta, deltaRefusals, Sorted}
+use Rattle.pool_order.specs.Order.{roomy, standsIn}
+use Rattle.pool_order.proofs.Slots.{roomy-all}
+use Rattle.pool_chunks.specs.Sorted.{badDelta, deltaRefusals, Arrays, Sorted}
 use Rattle.template_rules.specs.Filling.{Settings, template}
 use Rattle.template_rules.specs.Calls.{templateRefusals, templateReply, templateRoom}
 use Rattle.template_rules.proofs.Theorems.{template-few}
-use Rattle.template.specs.Trying.{Fillable, Filled, Answered}
+use Rattle.template.specs.Trying.{Fillable, Filled, Wide}
 
 -- ---- which of three lines gave a number
 
@@ -55,15 +58,26 @@ past-1 : (b c : Bool) → (fromOne b c ≡ 1 → ⊥) → b ≡ false
 past-1 true c n = absurd (n refl)
 past-1 false c n = refl
 
-first-3 : (c : Bool) → (fromThree c ≡ 0 → ⊥) → c ≡ true
-first-3 true n = refl
-first-3 false n = absurd (n refl)
+-- what a call that refuses nothing was asked with
+pub parts-of : (t : List ℕ) (w : Settings) (room : List ℕ) → Takes (templateRefusals t w room)
+    → (wellFormed t ≡ true)
+    × (differ (length (w .deltas)) (slotCount (poolOf t)) ≡ false)
+    × (entries (poolOf t) ≤ length room)
+    × (badDelta (poolOf t) (w .deltas) ≡ false)
+unfolding templateRefusals answerOf
+parts-of t w room takes =
+    let a = cond-second (not (wellFormed t)) (takes .answer) (λ z. omega arith) in
+    let b = cond-second
+    (differ (length (w .deltas)) (slotCount (poolOf t)) || differ (length (w .marks)) (slotCount (poolOf t))) (a .1) (λ z. omega arith) in
+    let c = cond-second (ltb (length room) (entries (poolOf t))) (b .1) (λ z. omega arith) in
+    let d = cond-second (badDelta (poolOf t) (w .deltas)) (c .1) (λ z. omega arith) in (
+      not-false (wellFormed t) (a .0),
+      or-left (differ (length (w .deltas)) (slotCount (poolOf t))) (differ (length (w .marks)) (slotCount (poolOf t))) (b .0),
+      ltb-false (length room) (entries (poolOf t)) (c .0),
+      d .0,
+    )
 
-past-3 : (c : Bool) → fromThree c ≡ 0 → c ≡ false
-past-3 true e = absurd (omega arith)
-past-3 false e = refl
-
-module _ (t : List ℕ) (w : Settings) (room : List ℕ) {k : ℕ} (e : k ≡ answerOf (deltaRefusals t (w .deltas))) where
+module _ (t : List ℕ) (w : Settings) (room : List ℕ) {k : ℕ} (e : k ≡ answerOf (deltaRefusals (wellFormed t) t (w .deltas))) where
   abbrev broken : Bool
   broken = not (wellFormed t)
 
@@ -128,13 +142,19 @@ module _ (t : List ℕ) (w : Settings) (room : List ℕ) {k : ℕ} (e : k ≡ an
           last : k ≡ fromThree bad
           last = rest ∙ ap (λ (b : Bool). fromOne b bad) as-long
 
-          pub gives-3 : (k ≡ 0 → ⊥) → Gives (templateRefusals t w room) 3
-          unfolding templateRefusals
-          gives-3 n = stop past-room (first-3 bad (λ q. n (last ∙ q)))
+          -- what is left of the table's and the deltas' own answer is the call's
+          pub answer-rest : k ≡ answerOf (templateRefusals t w room)
+          unfolding templateRefusals answerOf
+          answer-rest = last ∙ sym (past-room .same)
 
-          pub takes : k ≡ 0 → Takes (templateRefusals t w room)
-          unfolding templateRefusals
-          takes q = all-past (past past-room (past-3 bad (sym last ∙ q))) refl
+  -- where the call refuses nothing, neither did they
+  pub answer-none : Takes (templateRefusals t w room) → k ≡ 0
+  answer-none takes =
+      let q = parts-of t w room takes in
+      number
+      ∙ ap (λ (b : Bool). fromTwelve b longer bad) (ap not (q .0))
+      ∙ ap (λ (b : Bool). fromOne b bad) (q .1)
+      ∙ ap fromThree (q .3)
 
 -- ---- a table that is well-formed
 
@@ -144,33 +164,40 @@ module _ (t : List ℕ) (h : wellFormed t ≡ true) where
   its-sound = and-right (isLegal (length t)) (sound (poolOf t)) h
 
   -- its chunks can be tried
-  pub fillable : (ds : List ℤ) (r : Chunks) → Sorted (poolOf t) ds r → Fillable (poolOf t) r
-  fillable ds r s = record { stands = its-sound; few = few-slots t (well-legal t h); deltas = ds; sorted = s }
+  pub fillable : (ds : List ℤ) (r : Arrays) → slotCount (poolOf t) < length (r .firsts) → Sorted (poolOf t) ds r → Fillable (poolOf t) r
+  fillable ds r wide s = record { stands = its-sound; few = few-slots t (well-legal t h); wide = wide; deltas = ds; sorted = s }
+
+  pub template-fits : (w : Settings) → length (template (poolOf t) w) ≤ entries (poolOf t)
+  template-fits w = template-few (poolOf t) its-sound (few-slots t (well-legal t h)) w
+
+-- rooms that are wide enough where the table is well-formed
+pub stands-wide : (t rooms : List ℕ) → Wide t rooms → standsIn t rooms ≡ wellFormed t
+unfolding standsIn
+stands-wide t rooms h = asked (roomy (slotCount (poolOf t)) rooms) (wellFormed t) h
+
+-- nine rooms of one length
+pub nine-wide : (t : List ℕ) (m : ℕ) → (wellFormed t ≡ true → slotCount (poolOf t) < m)
+    → Wide t (m ∷ m ∷ m ∷ m ∷ m ∷ m ∷ m ∷ m ∷ m ∷ [])
+unfolding Each
+nine-wide t m l h = roomy-all (slotCount (poolOf t)) _ (l h, (l h, (l h, (l h, (l h, (l h, (l h, (l h, (l h, tt)))))))))
+
+pub slots-few : (t : List ℕ) → wellFormed t ≡ true → slotCount (poolOf t) < 1025
+slots-few t h = omega (arith, few-slots t (well-legal t h))
 
 -- ---- what is answered
 
-module _ {t : List ℕ} {w : Settings} {room : List ℕ} {reply : Reply} (picked : List ℕ) where
-  -- a refusal: nothing is to be written
-  pub answered-refused : {k : ℕ} → Gives (templateRefusals t w room) k → reply ≡ refusal k → Answered t w room reply picked
+module _ (t : List ℕ) (w : Settings) (room : List ℕ) {reply : Reply} where
+  -- a refusal: nothing is written
+  pub answered-refused : {k : ℕ} → k ≡ answerOf (templateRefusals t w room) → (k ≡ 0 → ⊥) → reply ≡ refusal k
+      → (reply ≡ templateReply t w room) × (room ≡ templateRoom t w room)
   unfolding templateReply templateRoom
-  answered-refused g e =
-      let none : reply .written ≡ 0 = ap (λ (r : Reply). r .written) e in
-      record {
-        answers = refuses refusal _ g e;
-        fits = omega arith;
-        there = omega arith;
-        leaves = ap (λ (n : ℕ). overwrite (take n picked) room) none ∙ keeps room _ g;
-      }
+  answered-refused {k} told some e =
+      let g : Gives (templateRefusals t w room) k = record { answer = sym told; number = ne-eqb k 0 some } in
+      (refuses refusal _ g e, keeps room _ g)
 
-  -- the template, which has a place in a room with one for each entry
-  pub answered-filled : {n : ℕ} → wellFormed t ≡ true → entries (poolOf t) ≤ length room → Takes (templateRefusals t w room)
-      → Filled (template (poolOf t) w) picked n → reply ≡ success n → Answered t w room reply picked
+  -- the template, at the room's start
+  pub answered-filled : {n : ℕ} {picked out : List ℕ} → Takes (templateRefusals t w room) → Filled (template (poolOf t) w) picked n
+      → reply ≡ success n → out ≡ overwrite (take n picked) room → (reply ≡ templateReply t w room) × (out ≡ templateRoom t w room)
   unfolding templateReply templateRoom
-  answered-filled {n} h l takes f e =
-      let all : reply .written ≡ n = ap (λ (r : Reply). r .written) e in
-      record {
-        answers = succeeds refusal _ takes (e ∙ ap success (f .count));
-        fits = omega (arith, f .count, template-few (poolOf t) (its-sound t h) (few-slots t (well-legal t h)) w);
-        there = omega (arith, f .count, ap length (f .are), length-take n picked);
-        leaves = ap (λ (k : ℕ). overwrite (take k picked) room) all ∙ writes room _ takes (ap (λ (o : List ℕ). overwrite o room) (f .are));
-      }
+  answered-filled takes f e o =
+      (succeeds refusal _ takes (e ∙ ap success (f .count)), writes room _ takes (o ∙ ap (λ (l : List ℕ). overwrite l room) (f .are)))

@@ -111,7 +111,7 @@ chosen-kept p out s o e up q =
     (distinct-snoc out s ∙ ap₂ (λ (a b : Bool). a && not b) (q .0) e, λ x m. ⊎-elim (q .1 x) (λ (z : x ≡ s). rw z o) (in-snoc x s out m))
 
 -- so they are no more than the slots
-chosen-few : (p : Pool) (l : List ℕ) → Chosen p l → length l ≤ slotCount p
+pub chosen-few : (p : Pool) (l : List ℕ) → Chosen p l → length l ≤ slotCount p
 chosen-few p l q =
     omega (arith, once-missing (slotCount p) l (record { below = λ i m. occupied-in p i (q .1 i m); once = q .0 }))
 
@@ -193,8 +193,11 @@ module _ {p : Pool} {flat firsts ups : List ℕ} (h : Laid p flat firsts ups) (s
       many = ap length whole ∙ length-append (take end picked) (s ∷ []) ∙ ap (λ (k : ℕ). k + 1) (sym (c .held .count))
 
       -- there is a place for it
+      pub climb-few : end < slotCount p
+      climb-few = omega (arith, many, chosen-few p (collect p (slotCount p) old s) chosen)
+
       pub climb-room : end < length picked
-      climb-room = omega (arith, many, chosen-few p (collect p (slotCount p) old s) chosen, h .few, c .held .long)
+      climb-room = omega (arith, climb-few, c .held .wide)
 
       pub climb-done : (taken' : List ℕ) → length taken' ≡ length taken
           → ((x : ℕ) → hasIn taken' x ≡ (hasIn taken x || (ltb x (span taken) && eqb x s)))
@@ -213,7 +216,7 @@ module _ {p : Pool} {flat firsts ups : List ℕ} (h : Laid p flat firsts ups) (s
                 ∙ sym (elem-snoc x s (take end picked))
                 ∙ ap (elem x) (sym whole);
             words = long ∙ c .held .words;
-            long = length-set picked end s ∙ c .held .long;
+            wide = omega (arith, length-set picked end s, c .held .wide);
           }
 
 -- ---- some slots, one after the other

@@ -1,8 +1,8 @@
 -- Laws of the chunks tried one after the other: what stands in the arrays, and what a chunk that is taken or passed over leaves. Assumes
 -- nothing.
 use mathlib.Core.Path.{_≡_, refl, sym, ap, ap₂, _∙_, subst}
-use mathlib.Core.Bool.{false≢true}
-use mathlib.Core.List.{List, [], _∷_}
+use mathlib.Core.Bool.{true, false≢true}
+use mathlib.Core.List.{List, [], _∷_, flatten}
 use Prim.Native.Nat.{ℕ, suc, _+_, _-_, _≤_, _<_}
 use native.Mathlib.Numerals.{add-one}
 use native.Mathlib.Omega.{arith}
@@ -16,12 +16,14 @@ use Rattle.feefrac.specs.declared.FeeFrac.{FeeFrac}
 use Rattle.feefrac.specs.Rate.{rateAt}
 use Rattle.sorting.proofs.Insertion.{length-sort}
 use Rattle.slotsets.specs.SlotSets.{capacity}
-use Rattle.pool_table.specs.Pool.{Pool}
+use Rattle.pool_table.specs.Pool.{Pool, slotCount}
+use Rattle.pool_table.specs.WellFormed.{sound}
+use Rattle.pool_rules.proofs.Sound.{sound-parts}
 use Rattle.pool_members.proofs.Only.{getD-map}
-use Rattle.pool_members.proofs.Rows.{start-within, rows-at}
-use Rattle.pool_chunks.specs.declared.Chunks.{Chunks}
+use Rattle.pool_members.proofs.Rows.{start-within, rows-at, rows-end}
 use Rattle.pool_chunks.specs.Chunks.{PoolChunk, allChunks, triedFirst, tried}
-use Rattle.pool_chunks.specs.Sorted.{Sorted, noChunk, chunkAt, slotLists}
+use Rattle.pool_chunks.specs.Sorted.{Arrays, Sorted, noChunk, chunkAt, slotLists}
+use Rattle.pool_chunks.proofs.Theorems.{chunks-elem, chunks-once}
 use Rattle.template_rules.specs.declared.Terms.{Terms}
 use Rattle.template_rules.specs.declared.Reason.{Reason}
 use Rattle.template_rules.specs.Filling.{settings, addition, rawSum, costSum, reasons, outcome, after, fill, template}
@@ -32,17 +34,18 @@ use Rattle.template.specs.declared.tests.Outcome.{Outcome}
 use Rattle.template.specs.declared.tests.Outcome.the-variants.{Taken, Passed}
 use Rattle.template.specs.Selecting.{Occupied}
 use Rattle.template.specs.Trying.{nothingUsed, Stands, chunkWith, told, Tried, Filled}
+use Rattle.template.proofs.Collecting.{chosen-few}
 
 -- ---- a chunk in the arrays
 
 -- the number of the k-th that is tried, and its slots
-abbrev pub numberAt : Chunks → ℕ → ℕ
+abbrev pub numberAt : Arrays → ℕ → ℕ
 numberAt r k = getD (r .order) k 0
 
-abbrev pub slotsAt : Chunks → ℕ → List ℕ
+abbrev pub slotsAt : Arrays → ℕ → List ℕ
 slotsAt r c = take (getD (r .starts) (c + 1) 0 - getD (r .starts) c 0) (drop (getD (r .starts) c 0) (r .listed))
 
-module _ (p : Pool) (ds : List ℤ) {r : Chunks} (s : Sorted p ds r) where
+module _ (p : Pool) (ds : List ℤ) {r : Arrays} (s : Sorted p ds r) where
   tried-many : length (tried p ds) ≡ r .count
   unfolding tried
   tried-many = length-sort triedFirst (allChunks p ds) ∙ sym (s .count)
@@ -71,6 +74,19 @@ module _ (p : Pool) (ds : List ℤ) {r : Chunks} (s : Sorted p ds r) where
 
     pub starts-within : getD (r .starts) (numberAt r k + 1) 0 ≤ length (r .listed)
     starts-within = rw (add-one (numberAt r k)) (omega (arith, start-within (s .rows) (suc (numberAt r k)) part, s .rows .within))
+
+    -- among no more than the pool has
+    pub starts-few : slotCount p ≤ capacity → sound p ≡ true → getD (r .starts) (numberAt r k + 1) 0 ≤ slotCount p
+    starts-few few stands =
+        let held = sound-parts p stands in
+        let all = flatten (slotLists (allChunks p ds)) in
+        rw (add-one (numberAt r k))
+        (omega (
+          arith,
+          start-within (s .rows) (suc (numberAt r k)) part,
+          rows-end (s .rows),
+          chosen-few p all (chunks-once p few held ds, λ x m. sym (chunks-elem p few held ds x) ∙ m),
+        ))
 
     -- the k-th that is tried
     tried-at : getD (tried p ds) k noChunk ≡ chunkAt (allChunks p ds) (numberAt r k)
@@ -111,16 +127,16 @@ module _ (p : Pool) (ds : List ℤ) {r : Chunks} (s : Sorted p ds r) where
 -- ---- one after the other
 
 -- what is selected, and then the chunks from the k-th on, is the template
-pub record Going (p : Pool) (marks : List ℕ) (terms : Terms) (r : Chunks) (k : ℕ) (used : Used) (taken picked : List ℕ) : Type 0 where
+pub record Going (p : Pool) (marks : List ℕ) (terms : Terms) (r : Arrays) (k : ℕ) (used : Used) (taken picked : List ℕ) : Type 0 where
   pub held : Stands p (take (used .count) picked) used taken picked
   pub rest : (ds : List ℤ) → Sorted p ds r
       → fill p (settings ds marks terms) (take (used .count) picked) (drop k (tried p ds)) ≡ template p (settings ds marks terms)
 
 -- nothing is selected
-pub going-start : (p : Pool) (marks : List ℕ) (terms : Terms) (r : Chunks) (picked : List ℕ) → length picked ≡ capacity
+pub going-start : (p : Pool) (marks : List ℕ) (terms : Terms) (r : Arrays) (picked : List ℕ) → slotCount p < length picked
     → Going p marks terms r 0 nothingUsed (replicate 16 0) picked
 unfolding distinct elem anyOf rawSum costSum template
-going-start p marks terms r picked long =
+going-start p marks terms r picked wide =
     record {
       held = record {
         selected = record {
@@ -130,7 +146,7 @@ going-start p marks terms r picked long =
           are = refl;
           member = λ x. hasIn-zeros 16 x;
           words = refl;
-          long = long;
+          wide = wide;
         };
         weight = refl;
         cost = refl;
@@ -143,7 +159,7 @@ stands-own : {p : Pool} {out : List ℕ} {used : Used} {taken picked : List ℕ}
     → Stands p (take (used .count) picked) used taken picked
 stands-own {p} {out} {used} {taken} {picked} h = subst (λ (l : List ℕ). Stands p l used taken picked) (sym (h .selected .are)) h
 
-module _ {p : Pool} {marks : List ℕ} {terms : Terms} {r : Chunks} {k : ℕ} {used : Used} {taken picked : List ℕ}
+module _ {p : Pool} {marks : List ℕ} {terms : Terms} {r : Arrays} {k : ℕ} {used : Used} {taken picked : List ℕ}
     (g : Going p marks terms r k used taken picked)
     (l : k < r .count) where
   abbrev out : List ℕ
@@ -190,7 +206,7 @@ module _ {p : Pool} {marks : List ℕ} {terms : Terms} {r : Chunks} {k : ℕ} {u
               are = same;
               member = old .selected .member;
               words = old .selected .words;
-              long = long ∙ old .selected .long;
+              wide = omega (arith, long, old .selected .wide);
             };
             weight = old .weight;
             cost = old .cost;
@@ -199,7 +215,7 @@ module _ {p : Pool} {marks : List ℕ} {terms : Terms} {r : Chunks} {k : ℕ} {u
         }
 
 -- no chunk is left
-pub going-done : {p : Pool} {marks : List ℕ} {terms : Terms} {r : Chunks} {k : ℕ} {used : Used} {taken picked : List ℕ}
+pub going-done : {p : Pool} {marks : List ℕ} {terms : Terms} {r : Arrays} {k : ℕ} {used : Used} {taken picked : List ℕ}
     → Going p marks terms r k used taken picked → r .count ≤ k → (ds : List ℤ) → Sorted p ds r
     → Filled (template p (settings ds marks terms)) picked (used .count)
 unfolding fill

@@ -16,7 +16,7 @@ use Rattle.weights.specs.Weights.{most}
 use Rattle.slotsets.specs.SlotSets.{capacity}
 use Rattle.refusals.proofs.Lines.{Gives, Takes}
 use Rattle.chunk_tests.specs.Tests.{overSigops}
-use Rattle.pool_table.specs.Pool.{Pool}
+use Rattle.pool_table.specs.Pool.{Pool, slotCount}
 use Rattle.pool_chunks.specs.Chunks.{PoolChunk}
 use Rattle.template_rules.specs.declared.Reason.{Reason}
 use Rattle.template_rules.specs.Filling.{Settings, grown, addition, numberOf, reasons, passed, outcomeOf, outcome, after}
@@ -25,6 +25,7 @@ use Rattle.template_rules.proofs.Collect.{grown-is}
 use Rattle.template.specs.declared.tests.Used.{Used}
 use Rattle.template.specs.declared.tests.Outcome.{Outcome}
 use Rattle.template.specs.declared.tests.Outcome.the-variants.{Taken, Passed}
+use Rattle.template.proofs.Collecting.{chosen-few}
 use Rattle.template.specs.Selecting.{Occupied, Selected}
 use Rattle.template.specs.Trying.{sumsOf, Stands, Tried}
 use Rattle.template_rules.proofs.Filling.{raw-append, cost-append}
@@ -78,8 +79,11 @@ module _ {p : Pool} (out slots : List ℕ) {taken picked : List ℕ} {n end : �
   pub brought-held : Occupied p (addition p out slots)
   brought-held x e = g .held x (ap (elem x) (grown-is p out slots) ∙ elem-right x out (addition p out slots) e)
 
-  pub brought-few : length (addition p out slots) ≤ capacity
-  brought-few = omega (arith, brought-many, brought-within, g .long)
+  pub brought-end : slotCount p ≤ capacity → end ≤ capacity
+  brought-end few = omega (arith, g .count, chosen-few p (grown p out slots) (g .once, g .held))
+
+  pub brought-few : slotCount p ≤ capacity → length (addition p out slots) ≤ capacity
+  brought-few few = omega (arith, brought-many, brought-end few)
 
 -- two sums together
 abbrev pub both : Used → Used → Used

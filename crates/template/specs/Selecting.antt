@@ -1,5 +1,5 @@
 -- What is selected, as the functions have it that collect it: no contract outside this crate cites these. Assumes nothing.
-use Prim.Native.Nat.{ℕ, _≤_}
+use Prim.Native.Nat.{ℕ, _≤_, _<_}
 use mathlib.Core.Path.{_≡_}
 use mathlib.Core.Bool.{true}
 use mathlib.Core.List.{List}
@@ -20,7 +20,7 @@ pub record Laid (p : Pool) (members firsts ups : List ℕ) : Type 0 where
   pub stands : sound p ≡ true
   pub few : slotCount p ≤ capacity
   pub places : Places p members firsts ups
-  pub long : length firsts ≡ capacity
+  pub wide : slotCount p < length firsts
 
 -- `out` is selected: occupied slots, none twice. It stands at the start of `picked`, n of them, and `taken` has it as a set
 pub record Selected (p : Pool) (out taken picked : List ℕ) (n : ℕ) : Type 0 where
@@ -30,4 +30,4 @@ pub record Selected (p : Pool) (out taken picked : List ℕ) (n : ℕ) : Type 0 
   pub are : take n picked ≡ out
   pub member : (x : ℕ) → hasIn taken x ≡ elem x out
   pub words : length taken ≡ setWords
-  pub long : length picked ≡ capacity
+  pub wide : slotCount p < length picked

@@ -1,23 +1,21 @@
 -- What the test of one chunk, the fill and the function that answers speak of: no contract outside this crate cites these. Assumes nothing.
-use Prim.Native.Nat.{ℕ, _≤_, min}
+use Prim.Native.Nat.{ℕ, _≤_, _<_, min}
 use mathlib.Core.Path.{_≡_}
 use mathlib.Core.Bool.{true}
 use mathlib.Core.List.{List}
 use lib.ListN.{length, take}
 use lib.IntN.{ℤ}
-use Rattle.lists.specs.Lists.{overwrite}
 use Rattle.feefrac.specs.declared.FeeFrac.{FeeFrac}
-use Rattle.refusals.specs.declared.Reply.{Reply}
 use Rattle.weights.specs.Weights.{most}
 use Rattle.slotsets.specs.SlotSets.{capacity}
 use Rattle.pool_table.specs.Pool.{Pool, slotCount, noTxid}
-use Rattle.pool_table.specs.WellFormed.{sound}
-use Rattle.pool_chunks.specs.declared.Chunks.{Chunks}
+use Rattle.pool_table.specs.Words.{poolOf}
+use Rattle.pool_table.specs.WellFormed.{sound, wellFormed}
+use Rattle.pool_order.specs.Order.{roomy}
 use Rattle.pool_chunks.specs.Chunks.{PoolChunk}
-use Rattle.pool_chunks.specs.Sorted.{Sorted}
+use Rattle.pool_chunks.specs.Sorted.{Arrays, Sorted}
 use Rattle.template_rules.specs.Filling.{Settings, addition, rawSum, costSum, numberOf, taken, passed, outcome, after}
 use Rattle.template_rules.specs.Filling as rules
-use Rattle.template_rules.specs.Calls.{templateReply, templateRoom}
 use Rattle.template.specs.declared.tests.Used.{Used}
 use Rattle.template.specs.declared.tests.Outcome.{Outcome}
 use Rattle.template.specs.declared.tests.Outcome.the-variants.{Taken, Passed}
@@ -55,11 +53,12 @@ pub record Tried (p : Pool) (w : Settings) (out : List ℕ) (c : PoolChunk) (ans
 -- ---- the chunks one after the other
 
 -- the chunks of a pool in which nothing is broken, as some deltas sort them
-pub record Fillable (p : Pool) (chunks : Chunks) : Type 0 where
+pub record Fillable (p : Pool) (r : Arrays) : Type 0 where
   pub stands : sound p ≡ true
   pub few : slotCount p ≤ capacity
+  pub wide : slotCount p < length (r .firsts)
   pub deltas : List ℤ
-  pub sorted : Sorted p deltas chunks
+  pub sorted : Sorted p deltas r
 
 -- a list of n stands at the start of `picked`
 pub record Filled (out picked : List ℕ) (n : ℕ) : Type 0 where
@@ -68,9 +67,6 @@ pub record Filled (out picked : List ℕ) (n : ℕ) : Type 0 where
 
 -- ---- the call
 
--- the answer of the call, and what of `picked` is to be written: of a refusal nothing
-pub record Answered (t : List ℕ) (w : Settings) (room : List ℕ) (reply : Reply) (picked : List ℕ) : Type 0 where
-  pub answers : reply ≡ templateReply t w room
-  pub fits : reply .written ≤ length room
-  pub there : reply .written ≤ length picked
-  pub leaves : overwrite (take (reply .written) picked) room ≡ templateRoom t w room
+-- rooms of these lengths have a place for each slot of a table that is well-formed, and one more
+abbrev pub Wide : List ℕ → List ℕ → Type 0
+Wide t rooms = wellFormed t ≡ true → roomy (slotCount (poolOf t)) rooms ≡ true

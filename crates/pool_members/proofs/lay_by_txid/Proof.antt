@@ -4,7 +4,7 @@ use mathlib.Core.Bool.{true, false}
 use mathlib.Core.List.{List}
 use Prim.Native.Nat.{ℕ, _+_, _-_, _≤_, _<_}
 use native.Mathlib.Omega.{arith}
-use lib.ListN.{length, getD, take, drop}
+use lib.ListN.{length, getD, take, drop, length-set}
 use borrow.Author.Needs.{needs}
 use Rattle.txset.specs.Sets.{hasIn}
 use Rattle.txset.proofs.Words.{hasIn-zeros}
@@ -18,23 +18,29 @@ use Rattle.pool_members.specs.Members.{membersOf, parentsOf}
 use Rattle.pool_members.specs.Steps.{StoredAt, Closed}
 use Rattle.pool_members.proofs.Rows.{row-lent, row-long, row-kept, row-here}
 use Rattle.pool_members.proofs.Laid.{few, sound}
-use Rattle.pool_members.proofs.Laying.{laid, Laying, members-closed, laying-start, laying-taken, laying-skip, laying-room, laying-bound}
-use Rattle.pool_members.proofs.Laying.{laying-more, laying-count, laying-rows, laying-places}
+use Rattle.pool_members.proofs.Laying.{laid, Laying, members-closed, laying-start, laying-taken, laying-skip, laying-room, laying-few, laying-bound}
+use Rattle.pool_members.proofs.Laying.{laying-more, laying-done}
 use Rattle.pool_members.proofs.lay_by_txid.Statement.{statement}
 use Rattle.pool_members.proofs.lay_by_txid.Tie as tie
 
 abbrev Inv-loop : tie.InvT-loop
-Inv-loop table order ranks members₀ bounds₀ firsts₀ ups₀ places₀ seen₀ count₀ end₀ i₀ members bounds firsts ups places seen count end i =
-    (i ≤ length order) × Laying (poolOf table) (laid (poolOf table) i) members bounds firsts ups places seen count end
+Inv-loop table order ranks places₀ members₀ bounds₀ firsts₀ ups₀ seen₀ count₀ end₀ i₀ places members bounds firsts ups seen count end i =
+    (i ≤ length order)
+    × Laying (poolOf table) (laid (poolOf table) i) members bounds firsts ups places seen count end
+    × (length places ≡ length places₀)
+    × (length members ≡ length members₀)
+    × (length bounds ≡ length bounds₀)
+    × (length firsts ≡ length firsts₀)
+    × (length ups ≡ length ups₀)
 
 abbrev μ-loop : tie.MeasureT-loop
-μ-loop table order ranks members₀ bounds₀ firsts₀ ups₀ places₀ seen₀ count₀ end₀ i₀ members bounds firsts ups places seen count end i =
+μ-loop table order ranks places₀ members₀ bounds₀ firsts₀ ups₀ seen₀ count₀ end₀ i₀ places members bounds firsts ups seen count end i =
     length order - i
 
 -- ---- the next slot by txid
 
 abbrev start : tie.At-loop Inv-loop μ-loop → tie.Start Inv-loop μ-loop
-start c = c .before .before .before .before .before .before .before .before
+start c = c .before .before .before .before .before .before .before .before .before
 
 abbrev loopOf : tie.After-contains Inv-loop μ-loop → tie.At-loop Inv-loop μ-loop
 loopOf c = c .before .before .before .before
@@ -69,10 +75,17 @@ room c =
     let d = c .before in
     laying-room (few′ d) (sound′ d) (loopOf d .loop .i) (in-order d) (slot d) (at-order d) (loopOf d .loop .inv .1) (new c)
 
-bound : (c : tie.Else1 Inv-loop μ-loop) → loopOf (c .before) .loop .count + 1 < length (loopOf (c .before) .loop .bounds)
+bound : (c : tie.Else1 Inv-loop μ-loop)
+    → (loopOf (c .before) .loop .count + 1 < length (loopOf (c .before) .loop .bounds)) × (loopOf (c .before) .loop .count + 1 ≤ capacity)
 bound c =
-    let d = c .before in
-    laying-bound (few′ d) (sound′ d) (loopOf d .loop .i) (in-order d) (slot d) (at-order d) (loopOf d .loop .inv .1) (new c)
+    let d = c .before in (
+      laying-bound (few′ d) (sound′ d) (loopOf d .loop .i) (in-order d) (slot d) (at-order d) (loopOf d .loop .inv .1) (new c),
+      omega (
+        arith,
+        few′ d,
+        laying-few (few′ d) (sound′ d) (loopOf d .loop .i) (in-order d) (slot d) (at-order d) (loopOf d .loop .inv .1) (new c),
+      ),
+    )
 
 -- ---- its cluster, once it is listed
 
@@ -107,15 +120,21 @@ part-is c =
 
 loop-holds : tie.Need-loop-holds Inv-loop μ-loop
 loop-holds c =
-    let st = c .before .before .before .before .before .before .before in
-    ((omega arith), laying-start _ _ _ (st .pre .1 .1 .1) refl refl (hasIn-zeros 16))
+    let st = c .before .before .before .before .before .before .before .before in
+    ((omega arith), laying-start _ _ (st .pre .1 .1 .1) refl (hasIn-zeros 16), refl, refl, refl, refl, refl)
 
 loop-again : tie.Need-loop-again Inv-loop μ-loop
 loop-again c =
-    let d = c .before in (
+    let d = c .before in
+    let inv = loopOf d .loop .inv in (
       (omega arith),
-      laying-skip (few′ d) (sound′ d) (loopOf d .loop .i) (in-order d) (slot d) (at-order d) (loopOf d .loop .inv .1)
+      laying-skip (few′ d) (sound′ d) (loopOf d .loop .i) (in-order d) (slot d) (at-order d) (inv .1)
           (sym (d .contains .ensures) ∙ c .if1 .taken),
+      inv .2,
+      inv .3,
+      inv .4,
+      inv .5,
+      inv .6,
     )
 
 list-cluster-requires : tie.Need-list-cluster-requires Inv-loop μ-loop
@@ -130,10 +149,10 @@ part-note-all-end c =
     let list = c .before .before .before .before in
     omega (arith, room (list .before .before .before), list .list-cluster .ensures .0, listed-long list)
 
-bound-after : tie.Need-slice-write-bounds Inv-loop μ-loop
-bound-after c =
-    let note = c .before .before .before .before .before in
-    bound (note .before .before .before .before .before .before .before .before .before .before .before .before)
+abbrev elseAt : tie.After-slice-known9 Inv-loop μ-loop → tie.Else1 Inv-loop μ-loop
+elseAt c =
+    let note = c .before .before .before .before .before .before in
+    note .before .before .before .before .before .before .before .before .before .before .before .before
 
 note-all-requires : tie.Need-note-all-requires Inv-loop μ-loop
 note-all-requires c κs =
@@ -143,13 +162,13 @@ note-all-requires c κs =
       start (loopOf d) .pre .0,
       (
         subst (Closed (poolAt d)) (sym (part-is list)) (members-closed (poolAt d) (few′ d) (sound′ d) (slot d) (taken d)),
-        (h .places-long, h .rooms .firsts-long, h .rooms .ups-long),
+        (h .rooms .in-places, (h .rooms .in-firsts, h .rooms .in-ups)),
       ),
     )
 
 loop-again-2 : tie.Need-loop-again-2 Inv-loop μ-loop
 loop-again-2 c =
-    let note = c .before .before .before .before .before in
+    let note = c .before .before .before .before .before .before in
     let list = note .before .before .before .before .before .before .before .before .before in
     let d = elseOf list in
     let p = poolAt d in
@@ -164,12 +183,17 @@ loop-again-2 c =
             long = listed-long list;
             kept = row-kept _ (membersAt list) _ _ (room (list .before .before .before)) (list .list-cluster .ensures .1 .0);
             here = listed-here list;
-            starts = subst (λ (xs : List ℕ). StoredAt xs (λ k. loop .end) (loop .firsts) firsts) (part-is list) (note .note-all .ensures .1 .0);
-            parents = subst (λ (xs : List ℕ). StoredAt xs (λ k. parentsOf p xs (getD xs k 0)) (loop .ups) ups) (part-is list) (note .note-all .ensures .1 .1);
-            places-long = note .note-all .ensures .0;
+            starts = subst (λ (xs : List ℕ). StoredAt xs (λ k. loop .end) (loop .firsts) firsts) (part-is list) (note .note-all .ensures .0);
+            parents = subst (λ (xs : List ℕ). StoredAt xs (λ k. parentsOf p xs (getD xs k 0)) (loop .ups) ups) (part-is list) (note .note-all .ensures .1);
+            places-long = note .note-all .kept .1 .1 .1 .0;
             seen-long = list .list-cluster .ensures .1 .1 .0;
             told = list .list-cluster .ensures .1 .1 .1;
           }),
+      note .note-all .kept .1 .1 .1 .0 ∙ loop .inv .2,
+      listed-long list ∙ loop .inv .3,
+      length-set (loop .bounds) (loop .count + 1) _ ∙ loop .inv .4,
+      note .note-all .ensures .0 .long ∙ loop .inv .5,
+      note .note-all .ensures .1 .long ∙ loop .inv .6,
     )
 
 returns : tie.Need-returns Inv-loop μ-loop
@@ -178,13 +202,8 @@ returns c =
     let st = start loop in
     let t = st .args .table .now in
     let l : length (slotsByTxid (poolOf t)) ≤ loop .loop .i =
-    subst (λ (xs : List ℕ). length xs ≤ loop .loop .i) (st .pre .1 .0) (c .loop-test .left) in (
-      laying-count (few t (st .pre .0)) (sound t (st .pre .0)) (loop .loop .i) l (loop .loop .inv .1),
-      (
-        laying-rows (few t (st .pre .0)) (sound t (st .pre .0)) (loop .loop .i) l (loop .loop .inv .1),
-        laying-places (few t (st .pre .0)) (sound t (st .pre .0)) (loop .loop .i) l (loop .loop .inv .1),
-      ),
-    )
+    subst (λ (xs : List ℕ). length xs ≤ loop .loop .i) (st .pre .1 .0) (c .loop-test .left) in
+    laying-done (few t (st .pre .0)) (sound t (st .pre .0)) (loop .loop .i) l (loop .loop .inv .1)
 
 pub lay-by-txid-spec : {M : Type 1} → statement M
 lay-by-txid-spec =
@@ -211,15 +230,15 @@ lay-by-txid-spec =
     (λ c. search needs)
     (λ c. search needs)
     part-note-all-end
-    (λ c. search needs)
     note-all-requires
-    (λ c. omega (arith, bound-after c))
-    (λ c. omega (arith, bound-after c))
-    bound-after
+    (λ c. omega (arith, bound (elseAt c) .1))
+    (λ c. omega (arith, bound (elseAt c) .1))
+    (λ c. bound (elseAt c) .0)
     (λ c. search needs)
     loop-again-2
-    (λ c. c .before .loop .inv .1 .rooms .members-long ∙ sym (start (c .before) .pre .1 .1 .1 .members-long))
-    (λ c. c .before .loop .inv .1 .rooms .bounds-long ∙ sym (start (c .before) .pre .1 .1 .1 .bounds-long))
-    (λ c. c .before .loop .inv .1 .rooms .firsts-long ∙ sym (start (c .before) .pre .1 .1 .1 .firsts-long))
-    (λ c. c .before .loop .inv .1 .rooms .ups-long ∙ sym (start (c .before) .pre .1 .1 .1 .ups-long))
+    (λ c. c .before .loop .inv .2)
+    (λ c. c .before .loop .inv .3)
+    (λ c. c .before .loop .inv .4)
+    (λ c. c .before .loop .inv .5)
+    (λ c. c .before .loop .inv .6)
     returns)

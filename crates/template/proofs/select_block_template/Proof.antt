@@ -1,122 +1,138 @@
--- `select_block_template`: the refusals in their order, and then the fill. Assumes nothing.
-use mathlib.Core.Path.{_≡_, sym, _∙_}
-use mathlib.Core.Bool.{true}
-use Prim.Native.Nat.{_≤_}
+-- `select_block_template`: the refusals in their order, and then the chunks tried and what is selected written. Assumes nothing.
+use mathlib.Core.Path.{_≡_, sym, ap, _∙_}
+use mathlib.Core.Bool.{Bool, true}
+use mathlib.Core.List.{List, [], _∷_}
+use Prim.Native.Nat.{ℕ, _≤_, _<_}
 use native.Mathlib.Omega.{arith}
-use lib.ListN.{length}
+use lib.ListN.{length, take, length-take}
+use lib.Seq.{length-take-le}
 use borrow.Author.Needs.{needs}
-use Rattle.pool_table.specs.Pool.{slotCount, entries}
+use Rattle.refusals.specs.Refusals.{answerOf}
+use Rattle.refusals.proofs.Lines.{Takes}
+use Rattle.pool_table.specs.Pool.{Pool, slotCount}
 use Rattle.pool_table.specs.Words.{poolOf}
 use Rattle.pool_table.specs.WellFormed.{wellFormed}
-use Rattle.template_rules.specs.Filling.{Settings, settings}
-use Rattle.template.proofs.Answers.{gives-12, gives-1, gives-1-too, gives-11, gives-3, takes, well-formed, fillable}
-use Rattle.template.proofs.Answers.{answered-refused, answered-filled}
+use Rattle.pool_order.specs.Order.{roomy}
+use Rattle.pool_order.proofs.Slots.{roomy-both}
+use Rattle.pool_chunks.specs.Sorted.{deltaRefusals, Arrays, arrays, Sorted}
+use Rattle.template_rules.specs.Filling.{Settings, settings, template}
+use Rattle.template_rules.specs.Calls.{templateRefusals}
+use Rattle.template.specs.Trying.{Filled}
+use Rattle.template.proofs.Answers.{parts-of, answer-none, stands-wide, fillable, template-fits, answered-refused, answered-filled}
 use Rattle.template.proofs.select_block_template.Statement.{statement}
 use Rattle.template.proofs.select_block_template.Tie as tie
 
--- ---- what the places know
+-- ---- the table's and the deltas' own answer
 
-abbrev start : tie.After-all-chunks → tie.Start
-start c = c .before .before .before .before .before
+abbrev begun : tie.After-all-chunks → tie.Start
+begun c = c .before .before .before .before .before .before .before .before .before .before .before .before .before .before .before .before .before .before .before .before .before
 
-abbrev asked : tie.After-all-chunks → Settings
-asked c = settings (start c .args .deltas .now) (start c .args .marks .now) (start c .args .terms)
+module _ (c : tie.After-all-chunks) where
+  abbrev s : tie.Start
+  s = begun c
 
-abbrev from2 : tie.Else2 → tie.After-all-chunks
-from2 c = c .before .before
+  abbrev t : List ℕ
+  t = s .args .table .now
 
-abbrev from3 : tie.Else3 → tie.Else2
-from3 c = c .before .before
+  abbrev w : Settings
+  w = settings (s .args .deltas .now) (s .args .marks .now) (s .args .terms)
 
-abbrev from4 : tie.Else4 → tie.Else3
-from4 c = c .before .before
+  abbrev room : List ℕ
+  room = s .args .room .now
 
-abbrev all : tie.Else4 → tie.After-all-chunks
-all c = from2 (from3 (from4 c))
+  abbrev nine : List ℕ
+  nine =
+      length (s .args .fees .now)
+      ∷ length (s .args .members .now)
+      ∷ length (s .args .bounds .now)
+      ∷ length (s .args .firsts .now)
+      ∷ length (s .args .listed .now)
+      ∷ length (s .args .starts .now)
+      ∷ length (s .args .order .now)
+      ∷ length (s .args .ups .now)
+      ∷ length (s .args .sizes .now)
+      ∷ []
 
-formed : (c : tie.Else2) → wellFormed (start (from2 c) .args .table .now) ≡ true
-formed c =
-    let made = from2 c in
-    well-formed (start made .args .table .now) (asked made) (start made .args .room .now) (made .all-chunks .ensures .0) (c .before .if1 .left)
+  own : c .all-chunks .result .answer ≡ answerOf (deltaRefusals (wellFormed t) t (s .args .deltas .now))
+  own = c .all-chunks .ensures .0 ∙ ap (λ (b : Bool). answerOf (deltaRefusals b t (s .args .deltas .now))) (stands-wide t nine (s .pre))
 
--- the marks are as long as the pool
-marked : (c : tie.Else3) → length (start (from2 (from3 c)) .args .marks .now) ≡ slotCount (poolOf (start (from2 (from3 c)) .args .table .now))
-marked c = c .if3 .left ∙ c .before .slots .ensures
+-- ---- the call's
 
--- the room has a place for each entry
-roomy : (c : tie.Else4) → entries (poolOf (start (all c) .args .table .now)) ≤ length (start (all c) .args .room .now)
-roomy c = omega (arith, c .if4 .left, c .before .count-entries .ensures)
+abbrev cutAt : tie.After-refusal → tie.After-all-chunks
+cutAt c = c .before .before .before .before .before .before .before .before .before .before .before .before .before .before .before .before .before .before .before
 
--- ---- the refusals
+told : (c : tie.After-refusal) → c .refusal .result ≡ answerOf (templateRefusals (t (cutAt c)) (w (cutAt c)) (room (cutAt c)))
+told c = let cut = cutAt c in c .refusal .ensures (s cut .args .deltas .now) (s cut .args .terms) (own cut)
 
 returns : tie.Need-returns
 returns c =
-    let made = c .before .before in
-    answered-refused (start made .args .picked .now)
-    (gives-12 (start made .args .table .now) (asked made) (start made .args .room .now) (made .all-chunks .ensures .0) (c .before .if1 .taken))
-    (c .refused .ensures)
+    let then = c .before in
+    let cut = cutAt (then .before) in
+    answered-refused (t cut) (w cut) (room cut) (told (then .before)) (then .if1 .taken) (c .refused .ensures)
 
-returns-2 : tie.Need-returns-2
-returns-2 c =
-    let else1 = c .before .before in
-    let made = else1 .before in
-    answered-refused (start made .args .picked .now)
-    (gives-1 (start made .args .table .now) (asked made) (start made .args .room .now) (made .all-chunks .ensures .0) (else1 .if1 .left)
-    (c .before .if2 .taken))
-    (c .refused2 .ensures)
+-- ---- nothing is refused
 
-returns-3 : tie.Need-returns-3
-returns-3 c =
-    let else2 = c .before .before .before in
-    let made = from2 else2 in
-    answered-refused (start made .args .picked .now)
-    (gives-1-too (start made .args .table .now) (asked made) (start made .args .room .now) (made .all-chunks .ensures .0) (else2 .before .if1 .left)
-    (else2 .if2 .left) (λ e. c .before .if3 .taken (e ∙ sym (c .before .before .slots .ensures))))
-    (c .refused3 .ensures)
+abbrev cutOf : tie.Else1 → tie.After-all-chunks
+cutOf c = cutAt (c .before)
 
-returns-4 : tie.Need-returns-4
-returns-4 c =
-    let else3 = c .before .before .before in
-    let else2 = from3 else3 in
-    let made = from2 else2 in
-    answered-refused (start made .args .picked .now)
-    (gives-11 (start made .args .table .now) (asked made) (start made .args .room .now) (made .all-chunks .ensures .0) (else2 .before .if1 .left)
-    (else2 .if2 .left) (marked else3) (omega (arith, c .before .if4 .taken, c .before .before .count-entries .ensures)))
-    (c .refused4 .ensures)
+abbrev arraysOf : tie.After-all-chunks → Arrays
+arraysOf c =
+    let last = c .all-chunks .last in
+    arrays (c .all-chunks .result .count) (last .1 .1 .1 .1 .1 .0) (last .1 .1 .1 .1 .1 .1 .0) (last .1 .1 .1 .1 .1 .1 .1 .1 .1 .1 .0) (last .1 .1 .1 .1 .1 .1 .1 .1 .1 .0) (last .1 .1 .1 .1 .1 .1 .1 .0) (last .1 .1 .0) (last .1 .1 .1 .1 .0) (last .1 .1 .1 .1 .1 .1 .1 .1 .0)
 
-returns-5 : tie.Need-returns-5
-returns-5 c =
-    let else4 = c .before .before in
-    let else2 = from3 (from4 else4) in
-    let made = from2 else2 in
-    answered-refused (start made .args .picked .now)
-    (gives-3 (start made .args .table .now) (asked made) (start made .args .room .now) (made .all-chunks .ensures .0) (else2 .before .if1 .left)
-    (else2 .if2 .left) (marked (from4 else4)) (roomy else4) (c .before .if5 .taken))
-    (c .refused5 .ensures)
+module _ (c : tie.Else1) where
+  takes : Takes (templateRefusals (t (cutOf c)) (w (cutOf c)) (room (cutOf c)))
+  takes = record { answer = sym (told (c .before)) ∙ c .if1 .left }
 
--- ---- the fill
+  well : wellFormed (t (cutOf c)) ≡ true
+  well = parts-of (t (cutOf c)) (w (cutOf c)) (room (cutOf c)) takes .0
+
+  sorted : Sorted (poolOf (t (cutOf c))) (s (cutOf c) .args .deltas .now) (arraysOf (cutOf c))
+  sorted = cutOf c .all-chunks .ensures .1 (answer-none (t (cutOf c)) (w (cutOf c)) (room (cutOf c)) (own (cutOf c)) takes)
+
+  rooms : (slotCount (poolOf (t (cutOf c))) < length (s (cutOf c) .args .bounds .now)) × (slotCount (poolOf (t (cutOf c))) < length (s (cutOf c) .args .firsts .now))
+  rooms =
+      let u = roomy-both _ (s (cutOf c) .pre well) in
+      let v = roomy-both _ (u .1) in
+      let x = roomy-both _ (v .1) in
+      (x .0, roomy-both _ (x .1) .0)
 
 fill-requires : tie.Need-fill-requires
 fill-requires c κs =
-    let else4 = c .before .before in
-    let made = all else4 in (
-      fillable (start made .args .table .now) (formed (from3 (from4 else4))) (start made .args .deltas .now) (made .all-chunks .result)
-          (made .all-chunks .ensures .1 (c .before .if5 .left)),
-      start made .pre,
+    let else = c .before .before .before .before .before .before .before .before .before in
+    let cut = cutOf else in
+    let kept = cut .all-chunks .kept in (
+      fillable (t cut) (well else) (s cut .args .deltas .now) (arraysOf cut) (omega (arith, rooms else .1, kept .1 .1 .1 .1 .0)) (sorted else),
+      omega (arith, rooms else .0, kept .1 .1 .1 .0),
     )
 
-returns-6 : tie.Need-returns-6
-returns-6 c =
-    let done = c .before .before .before in
-    let none = done .before .before .if5 .left in
-    let else4 = done .before .before .before in
-    let else2 = from3 (from4 else4) in
-    let made = from2 else2 in
-    answered-filled (done .fill .last .1 .1 .1 .1 .0) (formed else2) (roomy else4)
-    (takes (start made .args .table .now) (asked made) (start made .args .room .now) (made .all-chunks .ensures .0) (else2 .before .if1 .left)
-    (else2 .if2 .left) (marked (from4 else4)) (roomy else4) none)
-    (done .fill .ensures (start made .args .deltas .now) (made .all-chunks .ensures .1 none))
-    (c .wrote .ensures)
+abbrev elseOf : tie.After-fill → tie.Else1
+elseOf c = c .before .before .before .before .before .before .before .before .before .before
+
+module _ (c : tie.After-fill) where
+  abbrev picked : List ℕ
+  picked = c .fill .last .1 .1 .1 .1 .1 .1 .1 .1 .1 .1 .1 .1 .0
+
+  filled : Filled (template (poolOf (t (cutOf (elseOf c)))) (w (cutOf (elseOf c)))) picked (c .fill .result)
+  filled = c .fill .ensures (s (cutOf (elseOf c)) .args .deltas .now) (sorted (elseOf c))
+
+  fits : c .fill .result ≤ length picked
+  fits = omega (arith, filled .count, ap length (filled .are), length-take (c .fill .result) picked)
+
+write-out-requires : tie.Need-write-out-requires
+write-out-requires c κs =
+    let done = c .before .before .before .before in
+    let else = elseOf done in
+    let cut = cutOf else in
+    omega (arith, ap length (filled done .are), template-fits (t cut) (well else) (w cut), parts-of (t cut) (w cut) (room cut) (takes else) .2)
+
+returns-2 : tie.Need-returns-2
+returns-2 c =
+    let out = c .before .before .before in
+    let done = out .before .before .before .before .before in
+    let else = elseOf done in
+    let cut = cutOf else in
+    answered-filled (t cut) (w cut) (room cut) (takes else) (filled done) (c .wrote .ensures) (out .write-out .ensures)
 
 pub select-block-template-spec : {M : Type 1} → statement M
 select-block-template-spec =
@@ -124,18 +140,31 @@ select-block-template-spec =
     (tie.spec
     (λ c κs. search needs)
     (λ c κs. search needs)
-    returns
-    (λ c κs. search needs)
-    returns-2
-    (λ c κs. search needs)
-    (λ c κs. search needs)
-    returns-3
-    (λ c κs. search needs)
-    (λ c κs. search needs)
-    returns-4
-    (λ c κs. search needs)
-    returns-5
-    fill-requires
     (λ c κs. search needs)
     (λ c. search needs)
-    returns-6)
+    (λ c. cutAt (c .before .before) .all-chunks .kept .1 .1 .0)
+    (λ c. cutAt (c .before .before) .all-chunks .kept .1 .1 .1 .0)
+    (λ c. cutAt (c .before .before) .all-chunks .kept .1 .1 .1 .1 .0)
+    (λ c. cutAt (c .before .before) .all-chunks .kept .1 .1 .1 .1 .1 .0)
+    (λ c. cutAt (c .before .before) .all-chunks .kept .1 .1 .1 .1 .1 .1 .0)
+    (λ c. cutAt (c .before .before) .all-chunks .kept .1 .1 .1 .1 .1 .1 .1 .0)
+    (λ c. cutAt (c .before .before) .all-chunks .kept .1 .1 .1 .1 .1 .1 .1 .1 .0)
+    (λ c. cutAt (c .before .before) .all-chunks .kept .1 .1 .1 .1 .1 .1 .1 .1 .1 .0)
+    (λ c. cutAt (c .before .before) .all-chunks .kept .1 .1 .1 .1 .1 .1 .1 .1 .1 .1 .0)
+    returns
+    fill-requires
+    (λ c. fits (c .before .before))
+    (λ c. sym (length-take-le _ _ (fits (c .before .before .before))))
+    write-out-requires
+    (λ c κs. search needs)
+    (λ c. c .before .before .before .write-out .kept .1 .0)
+    (λ c. cutOf (elseOf (c .before .before .before .before .before .before .before .before)) .all-chunks .kept .1 .1 .0)
+    (λ c. c .before .before .before .before .before .before .before .before .fill .kept .1 .1 .1 .1 .1 .1 .1 .1 .1 .1 .1 .1 .0 ∙ cutOf (elseOf (c .before .before .before .before .before .before .before .before)) .all-chunks .kept .1 .1 .1 .0)
+    (λ c. cutOf (elseOf (c .before .before .before .before .before .before .before .before)) .all-chunks .kept .1 .1 .1 .1 .0)
+    (λ c. cutOf (elseOf (c .before .before .before .before .before .before .before .before)) .all-chunks .kept .1 .1 .1 .1 .1 .0)
+    (λ c. cutOf (elseOf (c .before .before .before .before .before .before .before .before)) .all-chunks .kept .1 .1 .1 .1 .1 .1 .0)
+    (λ c. cutOf (elseOf (c .before .before .before .before .before .before .before .before)) .all-chunks .kept .1 .1 .1 .1 .1 .1 .1 .0)
+    (λ c. cutOf (elseOf (c .before .before .before .before .before .before .before .before)) .all-chunks .kept .1 .1 .1 .1 .1 .1 .1 .1 .0)
+    (λ c. cutOf (elseOf (c .before .before .before .before .before .before .before .before)) .all-chunks .kept .1 .1 .1 .1 .1 .1 .1 .1 .1 .0)
+    (λ c. cutOf (elseOf (c .before .before .before .before .before .before .before .before)) .all-chunks .kept .1 .1 .1 .1 .1 .1 .1 .1 .1 .1 .0)
+    returns-2)

@@ -17,7 +17,7 @@ use Rattle.pool_chunks.proofs.cut.cut_cluster.Tie as tie
 -- ---- what was gathered
 
 abbrev startOf : tie.After-gather-rates → tie.Start
-startOf g = g .before .before .before .before .before .before .before .before .before
+startOf g = g .before .before .before .before .before .before .before .before .before .before
 
 abbrev membersIn : tie.After-gather-rates → List ℕ
 membersIn g = startOf g .args .members .now
@@ -117,13 +117,13 @@ orderedFor e = orderedBy (e .before .before .before .before .before)
 -- ---- the needs
 
 slot-rate-requires : tie.Need-slot-rate-requires
-slot-rate-requires c κs = c .before .before .before .before .before .before .before .pre .0 .pay 0 (omega (arith, c .before .if1 .taken))
+slot-rate-requires c κs = c .before .before .before .before .before .before .before .before .pre .0 .pay 0 (omega (arith, c .before .if1 .taken))
 
 returns : tie.Need-returns
 returns c =
     let rate = c .before .before .before .before .before .before in
     let put = c .before .before .before .put .ensures in
-    let start = rate .before .before .before .before .before .before .before .before in
+    let start = rate .before .before .before .before .before .before .before .before .before in
     let wide = start .pre .1 in
     let one = rate .before .before .if1 .taken in
     alone-written (start .pre .0) one _ _ _ _ _

@@ -1,4 +1,5 @@
 use Prim.Native.Nat.{_-_}
+use native.Mathlib.Omega.{arith}
 use lib.ListN.{length, getD}
 use borrow.Author.Needs.{needs}
 use Rattle.pool_order.proofs.Filling.{Copied, copied-start, copied-within, copied-more, copied-done}
@@ -15,10 +16,10 @@ loop-holds : tie.Need-loop-holds Inv-loop μ-loop
 loop-holds c = copied-start _ (c .pre .1)
 
 mul-parents : tie.Need-mul-parents Inv-loop μ-loop
-mul-parents c = let s = c .before .before .before in let h = s .pre .0 _ (c .before .loop-test .taken) in search needs
+mul-parents c = omega (arith, c .before .before .before .pre .0 _ (c .before .loop-test .taken))
 
-element-copy-out-parents : tie.Need-element-copy-out-parents Inv-loop μ-loop
-element-copy-out-parents c = c .before .before .before .pre .0 _ (c .before .loop-test .taken)
+shared-slice-read-parents : tie.Need-shared-slice-read-parents Inv-loop μ-loop
+shared-slice-read-parents c = c .before .before .before .before .pre .0 _ (c .before .before .loop-test .taken)
 
 slice-write-parents : tie.Need-slice-write-parents Inv-loop μ-loop
 slice-write-parents c = copied-within (c .before .before .before .loop .inv) (c .before .before .loop-test .taken)
@@ -42,7 +43,7 @@ gather-parents-spec =
     (λ c. search needs)
     (λ c. search needs)
     mul-parents
-    element-copy-out-parents
+    shared-slice-read-parents
     (λ c. search needs)
     slice-write-parents
     (λ c. search needs)

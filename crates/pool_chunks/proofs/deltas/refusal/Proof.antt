@@ -10,7 +10,7 @@ use Rattle.pool_chunks.proofs.deltas.refusal.Statement.{statement}
 use Rattle.pool_chunks.proofs.deltas.refusal.Tie as tie
 
 abbrev lines : tie.Start → List Line
-lines s = deltaRefusals (s .args .table .now) (s .args .deltas .now)
+lines s = deltaRefusals (s .args .stands) (s .args .table .now) (s .args .deltas .now)
 
 -- the tests that were passed
 past-0 : (s : tie.Start) → Past (lines s) 0
@@ -19,7 +19,7 @@ past-0 s = none-past refl
 
 past-1 : (e : tie.Else1) → Past (lines (e .before .before)) 1
 unfolding deltaRefusals
-past-1 e = past (past-0 (e .before .before)) (ap not (sym (e .before .before .pre) ∙ not-false _ (e .if1 .left)))
+past-1 e = past (past-0 (e .before .before)) (ap not (not-false (e .before .before .args .stands) (e .if1 .left)))
 
 past-2 : (e : tie.Else2) → Past (lines (e .before .before .before .before)) 2
 unfolding deltaRefusals
@@ -27,7 +27,7 @@ past-2 e = past (past-1 (e .before .before)) (ap not (eq-eqb _ _ (e .if2 .left �
 
 returns : tie.Need-returns
 unfolding deltaRefusals
-returns c = sym (stop (past-0 (c .before .before)) (ap not (sym (c .before .before .pre) ∙ not-true _ (c .if1 .taken))) .answer)
+returns c = sym (stop (past-0 (c .before .before)) (ap not (not-true (c .before .before .args .stands) (c .if1 .taken))) .answer)
 
 returns-2 : tie.Need-returns-2
 unfolding deltaRefusals

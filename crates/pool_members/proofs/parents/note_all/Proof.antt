@@ -1,15 +1,15 @@
 -- `note_all`: the first k members have their notes. Assumes nothing.
-use mathlib.Core.Path.{_≡_, refl, _∙_}
+use mathlib.Core.Path.{refl}
 use Prim.Native.Nat.{ℕ, _-_, _<_}
 use native.Mathlib.Omega.{arith}
 use lib.ListN.{length, getD}
 use borrow.Author.Needs.{needs}
 use Rattle.lists.proofs.Lists.{elem-at}
-use Rattle.slotsets.specs.SlotSets.{capacity}
+use Rattle.pool_table.specs.Pool.{slotCount}
 use Rattle.pool_table.specs.Words.{poolOf}
 use Rattle.pool_members.specs.Members.{parentsOf}
 use Rattle.pool_members.proofs.Stored.{Storing, storing-start, storing-within, storing-more, storing-done}
-use Rattle.pool_members.proofs.Laid.{parents-word}
+use Rattle.pool_members.proofs.Laid.{parent-in, parents-word}
 use Rattle.pool_members.proofs.parents.note_all.Statement.{statement}
 use Rattle.pool_members.proofs.parents.note_all.Tie as tie
 
@@ -25,7 +25,8 @@ abbrev start : tie.After-rank-all Inv-loop μ-loop → tie.Start Inv-loop μ-loo
 start c = c .before .before .before .before .before .before .before
 
 -- each member is below the rooms' lengths
-below : (c : tie.Start Inv-loop μ-loop) (n : ℕ) → n ≡ capacity → (k : ℕ) → k < length (c .args .members .now) → getD (c .args .members .now) k 0 < n
+below : (c : tie.Start Inv-loop μ-loop) (n : ℕ) → slotCount (poolOf (c .args .table .now)) < n → (k : ℕ) → k < length (c .args .members .now)
+    → getD (c .args .members .now) k 0 < n
 below c n e k l = omega (arith, c .pre .1 .0 .below (getD (c .args .members .now) k 0) (elem-at (c .args .members .now) k l))
 
 rank-all-requires : tie.Need-rank-all-requires Inv-loop μ-loop
@@ -38,12 +39,13 @@ loop-holds c =
     let st = start (c .before .before) in
     let closed = st .pre .1 .0 in
     let long = st .pre .1 .1 in
-    (storing-start _ _ _ (closed .once) (below st _ (long .1)), storing-start _ _ _ (closed .once) (below st _ (long .2)))
+    (storing-start _ _ _ (closed .once) (below st _ (long .1 .0)), storing-start _ _ _ (closed .once) (below st _ (long .1 .1)))
 
 parents-at-requires : tie.Need-parents-at-requires Inv-loop μ-loop
 parents-at-requires c κs =
     let rank = c .before .before .before .before .before .before in
-    rank .rank-all .ensures .long ∙ start rank .pre .1 .1 .0
+    let st = start rank in
+    λ a e. omega (arith, rank .rank-all .ensures .long, st .pre .1 .1 .0, parent-in (st .args .table .now) (st .pre .0) _ a e)
 
 -- the member is one of the slots
 in-firsts : tie.Need-slice-write-firsts Inv-loop μ-loop
@@ -79,10 +81,7 @@ same-length-3 c = c .before .loop .inv .1 .stored .long
 
 returns : tie.Need-returns Inv-loop μ-loop
 returns c =
-    let rank = c .before .before .before .before in (
-      rank .rank-all .ensures .long ∙ start rank .pre .1 .1 .0,
-      (storing-done (c .before .loop .inv .0) (c .loop-test .left), storing-done (c .before .loop .inv .1) (c .loop-test .left)),
-    )
+    (storing-done (c .before .loop .inv .0) (c .loop-test .left), storing-done (c .before .loop .inv .1) (c .loop-test .left))
 
 pub note-all-spec : {M : Type 1} → statement M
 note-all-spec =

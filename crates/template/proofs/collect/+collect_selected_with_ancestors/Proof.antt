@@ -1,5 +1,5 @@
 -- `collect_selected_with_ancestors`: parents by calls of itself, and then the slot. The measure is the slot's ancestor count. Assumes nothing.
-use mathlib.Core.Path.{_≡_, sym, subst, _∙_}
+use mathlib.Core.Path.{_≡_, refl, sym, subst, _∙_}
 use mathlib.Core.Bool.{true, false}
 use Prim.Native.Nat.{ℕ, _+_, _≤_, _<_}
 use native.Mathlib.Omega.{arith}
@@ -17,7 +17,7 @@ use Rattle.pool_table.specs.Links.{isParent}
 use Rattle.pool_links.proofs.Mutual.{occupied-in}
 use Rattle.template_rules.proofs.Ancestors.{ancestors, ancestors-fall, parent-occupied}
 use Rattle.template.proofs.Collecting.{laid-sound, Climbing, memberAt, collect-none, climb-start, climb-within, climb-parent, climb-turn}
-use Rattle.template.proofs.Collecting.{climb-room, climb-done}
+use Rattle.template.proofs.Collecting.{climb-few, climb-room, climb-done}
 use Rattle.template.proofs.collect.collect_selected_with_ancestors.Reads as own
 use Rattle.template.proofs.collect.collect_selected_with_ancestors.Kinds as own-kinds
 use Rattle.template.proofs.collect.+collect_selected_with_ancestors.Lts-collect_selected_with_ancestors as own-lts
@@ -41,7 +41,7 @@ own-below t = and 6 own-kinds.ps (falls 6 own-kinds.ps _<_ μ-own t) own.Pre
 
 abbrev Inv-loop : own-lts.InvT-loop
 Inv-loop table members firsts ups taken₀ picked₀ n s first left₀ end₀ taken picked left end =
-    Climbing (poolOf table) members firsts ups s (take n picked₀) left taken picked end
+    Climbing (poolOf table) members firsts ups s (take n picked₀) left taken picked end × (length picked ≡ length picked₀)
 
 abbrev μ-loop : own-lts.MeasureT-loop
 μ-loop table members firsts ups taken₀ picked₀ n s first left₀ end₀ taken picked left end = size left
@@ -105,14 +105,14 @@ module _ (t : ℕ) where
       collect-none (start .pre .1 .1 .0) (start .args .s) (sym (c .before .contains .ensures) ∙ c .if1 .taken)
 
   first-read : own-lts.Need-shared-slice-read-first (claims t) (own-at t) own.Post Inv-loop μ-loop
-  first-read c = let start = tested-start (c .before .before) in omega (arith, few start, start .pre .1 .0 .long)
+  first-read c = let start = tested-start (c .before .before) in omega (arith, occupied-in (pool start) (start .args .s) (start .pre .1 .1 .1), start .pre .1 .0 .wide)
 
   -- ---- the parents
 
   loop-holds : own-lts.Need-loop-holds (claims t) (own-at t) own.Post Inv-loop μ-loop
   loop-holds c =
       let start = tested-start (c .before .before .before) in
-      rw (c .at .ensures) (climb-start (start .pre .1 .0) (start .args .s) (start .pre .1 .1 .1) (start .pre .1 .1 .0))
+      (rw (c .at .ensures) (climb-start (start .pre .1 .0) (start .args .s) (start .pre .1 .1 .1) (start .pre .1 .1 .0)), refl)
 
   -- in a turn: not all parents are passed, and the next, which is one, stands in the arrays
   abbrev lowest-loop : Lowest → Loop
@@ -131,7 +131,7 @@ module _ (t : ℕ) where
   within c =
       let start = loop-start (lowest-loop c) in
       subst (λ (j : ℕ). getD (start .args .firsts .now) (start .args .s) 0 + j < length (start .args .members .now)) (sym (c .lowest .ensures))
-      (climb-within (start .pre .1 .0) (start .args .s) (start .pre .1 .1 .1) (lowest-loop c .loop .inv) (left c))
+      (climb-within (start .pre .1 .0) (start .args .s) (start .pre .1 .1 .1) (lowest-loop c .loop .inv .0) (left c))
 
   is-parent : (c : Lowest) → isParent (pool (loop-start (lowest-loop c))) (loop-start (lowest-loop c) .args .s) (parent c) ≡ true
   is-parent c =
@@ -139,7 +139,7 @@ module _ (t : ℕ) where
       subst
       (λ (j : ℕ). isParent (pool start) (start .args .s) (memberAt (start .args .members .now) (start .args .firsts .now) (start .args .s) j) ≡ true)
       (sym (c .lowest .ensures))
-      (climb-parent (start .pre .1 .0) (start .args .s) (start .pre .1 .1 .1) (lowest-loop c .loop .inv) (left c))
+      (climb-parent (start .pre .1 .0) (start .args .s) (start .pre .1 .1 .1) (lowest-loop c .loop .inv .0) (left c))
 
   parent-call : own-lts.Need-collect-selected-with-ancestors-requires (claims t) (own-at t) own.Post Inv-loop μ-loop
   parent-call c κs =
@@ -149,7 +149,7 @@ module _ (t : ℕ) where
       let fewer : ancestors (pool start) (parent turn) < t =
       omega (arith, start .pre .0, ancestors-fall (pool start) (laid-sound laid) (start .args .s) (parent turn) (is-parent turn)) in
       let held = parent-occupied (pool start) (laid-sound laid) (laid .few) (start .args .s) (parent turn) (is-parent turn) in
-      (fewer, (laid, (lowest-loop turn .loop .inv .held, held)))
+      (fewer, (laid, (lowest-loop turn .loop .inv .0 .held, held)))
 
   loop-less : own-lts.Need-loop-less (claims t) (own-at t) own.Post Inv-loop μ-loop
   loop-less c =
@@ -162,9 +162,11 @@ module _ (t : ℕ) where
       let next = called .before .before .before .before in
       let loop = lowest-loop (next .before) in
       let start = loop-start loop in
-      climb-turn (start .pre .1 .0) (start .args .s) (start .pre .1 .1 .1) (loop .loop .inv) (left (next .before))
-      (next .without-lowest .result) (next .without-lowest .ensures)
-      (rw (next .before .lowest .ensures) at (called .collect-selected-with-ancestors .ensures))
+      let collected = called .collect-selected-with-ancestors in (
+        climb-turn (start .pre .1 .0) (start .args .s) (start .pre .1 .1 .1) (loop .loop .inv .0) (left (next .before))
+            (next .without-lowest .result) (next .without-lowest .ensures) (rw (next .before .lowest .ensures) at (collected .ensures)),
+        collected .kept .1 .1 .1 .1 .1 .0 ∙ loop .loop .inv .1,
+      )
 
   -- ---- the slot itself, behind them
 
@@ -178,23 +180,31 @@ module _ (t : ℕ) where
   new c = sym (loop-tested c .contains .ensures) ∙ c .before .before .before .if1 .left
 
   -- there is a place for it, behind what was selected
-  room : (c : Over) → (over-loop c .loop .end < length (over-loop c .loop .picked)) × (loop-start (over-loop c) .args .n ≤ over-loop c .loop .end)
+  room : (c : Over)
+      → (over-loop c .loop .end < length (over-loop c .loop .picked))
+      × (loop-start (over-loop c) .args .n ≤ over-loop c .loop .end)
+      × (over-loop c .loop .end < capacity)
   room c =
       let loop = over-loop c in
       let start = loop-start loop in (
-        climb-room (start .pre .1 .0) (start .args .s) (start .pre .1 .1 .1) (loop .loop .inv) (passed c) (start .pre .1 .1 .0) (new loop),
-        omega (arith, loop .loop .inv .grows, start .pre .1 .1 .0 .count),
+        climb-room (start .pre .1 .0) (start .args .s) (start .pre .1 .1 .1) (loop .loop .inv .0) (passed c) (start .pre .1 .1 .0) (new loop),
+        omega (arith, loop .loop .inv .0 .grows, start .pre .1 .1 .0 .count),
+        omega (
+          arith,
+          climb-few (start .pre .1 .0) (start .args .s) (start .pre .1 .1 .1) (loop .loop .inv .0) (passed c) (start .pre .1 .1 .0) (new loop),
+          start .pre .1 .0 .few,
+        ),
       )
 
   taken-long : own-lts.Need-same-length-2 (claims t) (own-at t) own.Post Inv-loop μ-loop
   taken-long c =
       let loop = over-loop (c .before .before .before .before) in
-      c .before .before .insert .ensures .0 ∙ loop .loop .inv .held .words ∙ sym (loop-start loop .pre .1 .1 .0 .words)
+      c .before .before .insert .ensures .0 ∙ loop .loop .inv .0 .held .words ∙ sym (loop-start loop .pre .1 .1 .0 .words)
 
   picked-long : own-lts.Need-same-length-3 (claims t) (own-at t) own.Post Inv-loop μ-loop
   picked-long c =
       let loop = over-loop (c .before .before .before .before) in
-      simp length-set (loop .loop .inv .held .long ∙ sym (loop-start loop .pre .1 .1 .0 .long))
+      simp length-set (loop .loop .inv .1)
 
   returns-2 : own-lts.Need-returns-2 (claims t) (own-at t) own.Post Inv-loop μ-loop
   returns-2 c =
@@ -202,7 +212,7 @@ module _ (t : ℕ) where
       let loop = over-loop over in
       let start = loop-start loop in
       let entered = c .before .before .insert in
-      climb-done (start .pre .1 .0) (start .args .s) (start .pre .1 .1 .1) (loop .loop .inv) (passed over) (start .pre .1 .1 .0) (new loop)
+      climb-done (start .pre .1 .0) (start .args .s) (start .pre .1 .1 .1) (loop .loop .inv .0) (passed over) (start .pre .1 .1 .0) (new loop)
       (entered .last .0) (entered .ensures .0) (entered .ensures .1)
 
 pub +collect-selected-with-ancestors-spec : {M : Type 1} → statement M
@@ -228,7 +238,7 @@ pub +collect-selected-with-ancestors-spec : {M : Type 1} → statement M
     (loop-less t)
     (loop-again t)
     (λ c κs. search needs)
-    (λ c. let over = c .before .before .before .before in omega (arith, room t over, over-loop t over .loop .inv .held .long))
+    (λ c. let over = c .before .before .before .before in omega (arith, room t over))
     (λ c. omega (arith, room t (c .before .before .before .before)))
     (λ c. omega (arith, room t (c .before .before .before .before)))
     (taken-long t)

@@ -20,7 +20,7 @@ use Rattle.template.specs.declared.tests.Used.{Used}
 use Rattle.template.specs.Selecting.{Occupied}
 use Rattle.template.specs.Trying.{sumsOf, chunkWith}
 use Rattle.template.proofs.Trying.{all-same, stays-own, sigops-held, tried-passed, tried-taken}
-use Rattle.template.proofs.Trying.{brought-many, brought-order, brought-within, brought-stays, brought-is, brought-held, brought-few}
+use Rattle.template.proofs.Trying.{brought-many, brought-order, brought-within, brought-stays, brought-is, brought-held, brought-few, brought-end}
 use Rattle.template.proofs.tests.try_chunk.Statement.{statement}
 use Rattle.template.proofs.tests.try_chunk.Tie as tie
 
@@ -144,8 +144,11 @@ module _ (c : tie.After-collect-all) where
   added-held : Occupied (pool (begun c)) added × (length added ≤ capacity)
   added-held = (
     brought-held (out (begun c)) (slots (begun c)) (begun c .pre .1 .1 .selected .count) (c .collect-all .ensures),
-    brought-few (out (begun c)) (slots (begun c)) (begun c .pre .1 .1 .selected .count) (c .collect-all .ensures),
+    brought-few (out (begun c)) (slots (begun c)) (begun c .pre .1 .1 .selected .count) (c .collect-all .ensures) (begun c .pre .0 .few),
   )
+
+  end-few : c .collect-all .result ≤ capacity
+  end-few = brought-end (out (begun c)) (slots (begun c)) (begun c .pre .1 .1 .selected .count) (c .collect-all .ensures) (begun c .pre .0 .few)
 
 sum-slots-requires : tie.Need-sum-slots-requires
 sum-slots-requires c κs =
@@ -233,8 +236,7 @@ add-count c =
       arith,
       ap (λ (u : Used). u .count) (sums sum),
       brought-many (out start) (slots start) (start .pre .1 .1 .selected .count) (done .collect-all .ensures),
-      within done,
-      done .collect-all .ensures .long,
+      end-few done,
     )
 
 add-weight : tie.Need-add-t41
@@ -263,7 +265,7 @@ try-chunk-spec =
     (λ c. search needs)
     returns-4
     (λ c κs. search needs)
-    (λ c. let done = c .before .before .before .before in omega (arith, order done, within done, done .collect-all .ensures .long))
+    (λ c. let done = c .before .before .before .before in omega (arith, order done, end-few done))
     (λ c. order (c .before .before .before .before))
     (λ c. order (c .before .before .before .before .before))
     (λ c. within (c .before .before .before .before .before))
