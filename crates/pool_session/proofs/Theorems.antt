@@ -68,20 +68,20 @@ making-first n l s m =
     (λ e. rw e (something (made (history.begun l (eqb-true (makeAnswer (lentTable n) l) 0 e)))))
     (λ e. rw e m)
 
--- the calls leave a table of no words as it is
-add-nothing : (t : List ℕ) (e : Entry) (listed : List ℕ) → t ≡ [] → afterAdd t e listed ≡ []
+-- the calls leave a table of no words as it is (pool_run's laws cite these four)
+pub add-nothing : (t : List ℕ) (e : Entry) (listed : List ℕ) → t ≡ [] → afterAdd t e listed ≡ []
 unfolding afterAdd addRefusals keptUnless answerOf wellFormed isLegal slotsIn
 add-nothing t e listed z = rw z
 
-remove-nothing : (t : List ℕ) (x : Txid) → t ≡ [] → afterRemove t x ≡ []
+pub remove-nothing : (t : List ℕ) (x : Txid) → t ≡ [] → afterRemove t x ≡ []
 unfolding afterRemove namedRefusals keptUnless answerOf wellFormed isLegal slotsIn
 remove-nothing t x z = rw z
 
-cost-nothing : (t : List ℕ) (x : Txid) (c : ℕ) → t ≡ [] → afterSetCost t x c ≡ []
+pub cost-nothing : (t : List ℕ) (x : Txid) (c : ℕ) → t ≡ [] → afterSetCost t x c ≡ []
 unfolding afterSetCost namedRefusals keptUnless answerOf wellFormed isLegal slotsIn
 cost-nothing t x c z = rw z
 
-clear-nothing : (t : List ℕ) → t ≡ [] → afterClear t ≡ []
+pub clear-nothing : (t : List ℕ) → t ≡ [] → afterClear t ≡ []
 unfolding afterClear keptUnless answerOf wellFormed isLegal slotsIn
 clear-nothing t z = rw z
 

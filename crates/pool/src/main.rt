@@ -1,0 +1,4 @@
+// The pool program, run on the example of README.
+fn main() {
+    pool_run::run();
+}

@@ -1,0 +1,66 @@
+use mathlib.Core.Path.{_≡_}
+use mathlib.Core.List.{List, _++_, append-nil}
+use Prim.Native.Nat.{ℕ, _-_, _≤_}
+use native.Mathlib.Omega.{arith}
+use lib.ListN.{length, take}
+use lib.Seq.{take-all}
+use borrow.Author.Needs.{needs}
+use borrow.Author.Tests.{not-true}
+use Rattle.lists.proofs.Bools.{clash}
+use Rattle.pool_run.specs.Standing.{keptLength, Stands}
+use Rattle.pool_run.proofs.Lines.{next-byte}
+use Rattle.pool_run.proofs.take_in.Statement.{statement}
+use Rattle.pool_run.proofs.take_in.Tie as tie
+
+-- the first i bytes are taken in
+abbrev Inv-loop : tie.InvT-loop
+Inv-loop chunk line₀ memory₀ deltas₀ marks₀ at₀ i₀ line memory deltas marks at i =
+    (i ≤ length chunk)
+    × ((at .len ≤ keptLength)
+    × ((input : List ℕ) → Stands input at₀ line₀ memory₀ deltas₀ marks₀ → Stands (input ++ take i chunk) at line memory deltas marks))
+
+abbrev μ-loop : tie.MeasureT-loop
+μ-loop chunk line₀ memory₀ deltas₀ marks₀ at₀ i₀ line memory deltas marks at i = length chunk - i
+
+loop-holds : tie.Need-loop-holds Inv-loop μ-loop
+loop-holds c = (omega arith, (c .before .pre, λ input st. rw (append-nil input) st))
+
+loop-again : tie.Need-loop-again Inv-loop μ-loop
+loop-again c =
+    let called = c .before .before in
+    let turn = called .before .before .before .before .before .before in
+    let head = turn .before in
+    let inv = head .loop .inv in
+    let more = turn .loop-test .taken in (
+      omega (arith, more),
+      (
+        called .take-byte .ensures .0,
+        λ input st.
+            rw (next-byte input (head .before .before .args .chunk .now) (head .loop .i) more)
+            (called .take-byte .ensures .1 (input ++ take (head .loop .i) (head .before .before .args .chunk .now)) (inv .1 .1 input st)),
+      ),
+    )
+
+-- an answer was not written
+returns : tie.Need-returns Inv-loop μ-loop
+returns c = λ input st e. clash e (not-true _ (c .if1 .taken))
+
+returns-2 : tie.Need-returns-2 Inv-loop μ-loop
+returns-2 c =
+    let head = c .before in
+    λ input st e. rw (take-all (head .loop .i) (head .before .before .args .chunk .now) (c .loop-test .left)) at (head .loop .inv .1 .1 input st)
+
+pub take-in-spec : {M : Type 1} → statement M
+take-in-spec =
+    tie.close
+    (tie.spec
+    Inv-loop
+    μ-loop
+    loop-holds
+    (λ c. search needs)
+    (λ c κs. c .before .before .before .before .before .before .loop .inv .1 .0)
+    returns
+    (λ c. search needs)
+    (λ c. search needs)
+    loop-again
+    returns-2)
