@@ -234,12 +234,25 @@ pub fn respond(input: &[u8]) -> String {
 #[cfg(test)]
 mod tests {
     use super::*;
+    use std::path::Path;
 
     const A: &str = "00112233445566778899aabbccddeeff00112233445566778899aabbccddeeff";
     const B: &str = "ffeeddccbbaa99887766554433221100ffeeddccbbaa99887766554433221100";
 
     fn told(lines: &[&str]) -> String {
         respond((lines.join("\n") + "\n").as_bytes())
+    }
+
+    #[test]
+    fn stored_runs_of_the_program() {
+        for name in ["pool", "run_pool_history"] {
+            let crates = Path::new(env!("CARGO_MANIFEST_DIR")).join("../crates");
+            let stored = |file| std::fs::read(crates.join(name).join(file)).expect("a stored run");
+            assert!(
+                respond(&stored("stdin")).into_bytes() == stored("stdout"),
+                "{name}"
+            );
+        }
     }
 
     #[test]
