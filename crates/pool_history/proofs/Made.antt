@@ -14,9 +14,10 @@ use Rattle.pool_table.specs.Ranges.{limitsInRange}
 use Rattle.pool_table.specs.Links.{sideOf, isParent}
 use Rattle.pool_table.specs.WellFormed.{sound}
 use Rattle.pool_table.proofs.Pools.{made-at}
+use Rattle.pool_table.proofs.Named.{free-side}
 use Rattle.pool_rules.specs.Module8.{cleared}
 use Rattle.pool_rules.proofs.Sound.{sound-parts}
-use Rattle.pool_history.proofs.Plain.{names, free-names, parent-names, plain-sound}
+use Rattle.pool_history.proofs.Plain.{names, parent-names, plain-sound}
 use Rattle.pool_history.proofs.Compared.{weightless}
 
 module _ (l : Limits) (n : ℕ) where
@@ -26,7 +27,7 @@ module _ (l : Limits) (n : ℕ) where
   made-free s = ap isOccupied (made-at l n s)
 
   pub made-names : (side : Side) (a b : ℕ) → names (made l n) side a b ≡ false
-  made-names side a b = ap (λ (x : Slot). hasIn (sideOf side x) b) (made-at l n a) ∙ free-names side b
+  made-names side a b = ap (λ (x : Slot). hasIn (sideOf side x) b) (made-at l n a) ∙ free-side side b
 
   no-chain : (a b : ℕ) → Way (isParent (made l n)) a b → ⊥
   no-chain a b (step e) = clash (parent-names (made l n) a b e) (made-names Parents a b)

@@ -13,7 +13,6 @@ use Rattle.lists.proofs.Bools.{clash, cases, and-both, and-right, or-either, im
 use Rattle.lists.proofs.Numbers.{lt-or-ge}
 use Rattle.txset.specs.Sets.{hasIn}
 use Rattle.slotsets.specs.SlotSets.{capacity}
-use Rattle.slotsets.proofs.SlotSets.{none-has}
 use Rattle.txids.specs.Txids.{sameTxid}
 use Rattle.txids.proofs.Theorems.{same-equal, equal-same}
 use Rattle.ways.specs.Ways.{Way, isCyclic}
@@ -27,6 +26,7 @@ use Rattle.pool_table.specs.Links.{sideOf, isParent, isChild, inCluster, weight
 use Rattle.pool_table.specs.WellFormed.{numbersInRange, isTwin, txidsDistinct, totalIsSum, freeZeroed, isAnswered, linksMutual, acyclic, isWithin}
 use Rattle.pool_table.specs.WellFormed.{clustersWithin, sound}
 use Rattle.pool_table.proofs.Rows.{slot-past, length-side, zeroed-free}
+use Rattle.pool_table.proofs.Named.{free-side}
 use Rattle.pool_table.proofs.Theorems.{Wholes}
 use Rattle.pool_links.proofs.Mutual.{occupied-in}
 use Rattle.pool_members.proofs.Members.{parents-bounded}
@@ -62,18 +62,13 @@ module _ (p : Pool) (a b : ℕ) where
 
 -- ---- from a sound pool
 
--- a free slot names none
-pub free-names : (side : Side) (b : ℕ) → hasIn (sideOf side free) b ≡ false
-free-names Parents b = none-has b
-free-names Children b = none-has b
-
 module _ (p : Pool) (w : Wholes (p .slots)) where
   -- who names another is a slot, and names none past what a set holds
   names-in : (side : Side) (a b : ℕ) → names p side a b ≡ true → (a < slotCount p) × (b < capacity)
   unfolding slotAt
   names-in side a b e =
       let none : slotCount p ≤ a → names p side a b ≡ false =
-      λ l. ap (λ (x : Slot). hasIn (sideOf side x) b) (slot-past p a l) ∙ free-names side b in
+      λ l. ap (λ (x : Slot). hasIn (sideOf side x) b) (slot-past p a l) ∙ free-side side b in
       let x = slotAt p a in
       (⊎-elim (λ l. l) (λ l. clash e (none l)) (lt-or-ge a (slotCount p)), member-below (sideOf side x) (length-side side x (w a)) b e)
 

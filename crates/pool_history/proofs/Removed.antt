@@ -19,11 +19,12 @@ use Rattle.pool_table.specs.Ranges.{entryInRange}
 use Rattle.pool_table.specs.Links.{sideOf, weightOf}
 use Rattle.pool_table.specs.WellFormed.{sound}
 use Rattle.pool_table.proofs.Rows.{Whole, slot-same}
+use Rattle.pool_table.proofs.Named.{free-side}
 use Rattle.pool_table.proofs.Theorems.{Wholes}
 use Rattle.pool_links.proofs.Mutual.{occupied-in}
 use Rattle.pool_rules.specs.Module8.{withSlots, removed}
 use Rattle.pool_rules.proofs.Pools.{count-with}
-use Rattle.pool_history.proofs.Plain.{names, Plain, sound-plain, plain-sound, free-names}
+use Rattle.pool_history.proofs.Plain.{names, Plain, sound-plain, plain-sound}
 use Rattle.pool_history.proofs.Compared.{weight-but}
 use Rattle.pool_history.proofs.Fewer.{Fewer, fewer-acyclic, fewer-within}
 use Rattle.pool_history.proofs.Slots.{each-slot, same-occupied, has-minus}
@@ -84,9 +85,9 @@ module _ (p : Pool) (r : ℕ) where
       each-slot p _ _ (λ s x y. hasIn (sideOf side y) b ≡ (hasIn (sideOf side x) b && (not (eqb s r) && not (eqb b r))))
       (λ s.
       cases (eqb s r)
-      (λ e. rw e (free-names side b ∙ sym (and-false (names p side s b))))
+      (λ e. rw e (free-side side b ∙ sym (and-false (names p side s b))))
       (λ e. rw e (less side (slotAt p s) (w s))))
-      (λ s _. rw (free-names side b))
+      (λ s _. rw (free-side side b))
       a
     where
       less : (side : Side) (x : Slot) → Whole x → hasIn (sideOf side (unlinked r x)) b ≡ (hasIn (sideOf side x) b && not (eqb b r))

@@ -7,7 +7,6 @@ use native.Mathlib.Nat.{zero-add}
 use native.Mathlib.Omega.{arith}
 use lib.Dec.{eqb}
 use lib.ListN.{length, getD}
-use borrow.Author.Tests.{eqb-true}
 use Rattle.lists.specs.Lists.{allOf}
 use Rattle.lists.proofs.Below.{all-at}
 use Rattle.lists.proofs.Bools.{and-both, and-left, and-right, clash}
@@ -16,6 +15,7 @@ use Rattle.pool_table.specs.Words.{isLegal, poolOf, slotWords}
 use Rattle.pool_table.specs.Ranges.{limitsInRange}
 use Rattle.pool_table.specs.WellFormed.{numbersInRange, txidsDistinct, totalIsSum, freeZeroed, linksMutual, acyclic, clustersWithin, sound, wellFormed}
 use Rattle.pool_table.proofs.Rows.{Whole, whole-free, slot-is, zeroed-free}
+use Rattle.pool_table.proofs.Named.{zeros-at}
 
 -- ---- the parts
 
@@ -52,18 +52,12 @@ module _ (t : List ℕ) (h : wellFormed t ≡ true) where
 
 -- ---- a free slot
 
-zero-at : (ws : List ℕ) (k : ℕ) → allOf (eqb 0) ws ≡ true → getD ws k 0 ≡ 0
-unfolding allOf
-zero-at [] k h = refl
-zero-at (w ∷ ws) zero h = sym (eqb-true 0 w (and-left (eqb 0 w) (allOf (eqb 0) ws) h))
-zero-at (w ∷ ws) (suc k) h = zero-at ws k (and-right (eqb 0 w) (allOf (eqb 0) ws) h)
-
 -- a slot whose words are all 0 is the free one
 pub zeroed-is : (x : Slot) → Whole x → allOf (eqb 0) (slotWords x) ≡ true → x ≡ free
 zeroed-is x w h =
     let ws = slotWords x in
     sym (slot-is ws 0 x w (λ k _. ap (λ (n : ℕ). getD ws n 0) (zero-add k)))
-    ∙ slot-is ws 0 free whole-free (λ k _. zero-at ws (0 + k) h ∙ sym (zero-at (slotWords free) k zeroed-free))
+    ∙ slot-is ws 0 free whole-free (λ k _. zeros-at ws (0 + k) h ∙ sym (zeros-at (slotWords free) k zeroed-free))
 
 pub free-is : (p : Pool) → Sound p → (s : ℕ) → s < slotCount p → Whole (slotAt p s) → occupied p s ≡ false → slotAt p s ≡ free
 unfolding freeZeroed

@@ -21,8 +21,8 @@ use Rattle.pool_table.specs.Pool.{Slot, Pool, free, slotAt, slotCount}
 use Rattle.pool_table.specs.Links.{sideOf, linksAt, hasLinks}
 use Rattle.pool_table.proofs.Rows.{slot-past}
 
--- words that are 0 name nobody
-zeros-at : (ws : List ℕ) (j : ℕ) → allOf (eqb 0) ws ≡ true → getD ws j 0 ≡ 0
+-- of words that are 0 each is 0, and they name nobody
+pub zeros-at : (ws : List ℕ) (j : ℕ) → allOf (eqb 0) ws ≡ true → getD ws j 0 ≡ 0
 unfolding allOf
 zeros-at [] j h = refl
 zeros-at (w ∷ ws) zero h = sym (eqb-true 0 w (and-left (eqb 0 w) (allOf (eqb 0) ws) h))
@@ -44,7 +44,8 @@ unlinked-side x h side b = go side
     go Parents = zeros-name (x .parents) b (zeros .0)
     go Children = zeros-name (x .children) b (zeros .1)
 
-free-side : (side : Side) (b : ℕ) → hasIn (sideOf side free) b ≡ false
+-- nor does a free slot
+pub free-side : (side : Side) (b : ℕ) → hasIn (sideOf side free) b ≡ false
 free-side Parents b = none-has b
 free-side Children b = none-has b
 
