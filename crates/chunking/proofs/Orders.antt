@@ -172,18 +172,3 @@ sum-take [] zero = omega arith
 sum-take [] (suc k) = omega arith
 sum-take (l ∷ ls) zero = omega arith
 sum-take (l ∷ ls) (suc k) = omega (arith, sum-take ls k)
-
--- a room starts with the r lengths
-pub record Lengths (lengths room : List ℕ) (r : ℕ) : Type 0 where
-  pub count : r ≡ length lengths
-  pub at : (k : ℕ) → k < r → getD room k 0 ≡ getD lengths k 0
-
-pub lengths-are : (fs : List ℤ) (ss order room new : List ℕ) (r : ℕ) → length order ≤ positions → length order ≤ length room
-    → r ≡ lengthsWritten fs ss order room → new ≡ lengthsFilled fs ss order room → Lengths (orderLengths fs ss order) new r
-lengths-are fs ss order room new r x y p q =
-    let ls = orderLengths fs ss order in
-    let all = all-lengths fs ss order room new r x y p q in
-    record {
-      count = all .0;
-      at = λ k l. ap (λ (xs : List ℕ). getD xs k 0) (all .1) ∙ List·getD-append ls (drop r room) 0 k (omega (arith, all .0));
-    }

@@ -99,11 +99,6 @@ joined-at {walk} {extra} {old} {new} n j i a =
 
 -- ---- a relation f turned around: j is entered in the a-th set where f j a, one j after the other
 
--- before the first, none is
-pub turned-none : (f : ℕ → ℕ → Bool) (ws : List ℕ) → ((a j : ℕ) → mem (setAt ws a) j ≡ false)
-    → (a j : ℕ) → mem (setAt ws a) j ≡ (ltb j 0 && f j a)
-turned-none f ws h a j = h a j ∙ ap (λ (b : Bool). b && f j a) (sym (le-ltb j 0 (omega arith)))
-
 -- the next, i, is joined to the sets of its own a
 pub turned-more : (f : ℕ → ℕ → Bool) (i : ℕ) (own single : TxSet) {old new : List ℕ} → i < positions → setWords ≤ length old
     → ((a : ℕ) → mem own a ≡ f i a) → ((j : ℕ) → mem single j ≡ (isPosition j && eqb j i)) → Joined own single old new
