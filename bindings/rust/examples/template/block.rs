@@ -3,9 +3,7 @@
 
 use crate::list::{List, Transaction, Wrong};
 use std::cmp::Ordering;
-use yaghrudil::{
-    chunk_lengths, linearize, Pool, Refusal, Terms, Txid, BLOCK_SIGOPS_MAX, SLOTS_MAX,
-};
+use yaghrudil::{chunk_lengths, linearize, Pool, Terms, Txid, BLOCK_SIGOPS_MAX, SLOTS_MAX};
 
 /// A chunk of a cluster: transactions that are mined together, as places in the list.
 #[derive(Debug)]
@@ -98,18 +96,11 @@ pub fn fill(list: &List) -> Result<Block, Wrong> {
     })
 }
 
-fn refused(line: usize, call: &str, refusal: Refusal) -> Wrong {
-    Wrong {
-        line,
-        what: format!("{call} refuses with {}: {refusal}", refusal.number()),
-    }
-}
-
 /// A pool with the list in it, parents before children, and the slot of each transaction.
 fn pool_of(list: &List) -> Result<(Pool, Vec<usize>), Wrong> {
     let n = list.transactions.len();
-    let mut pool = Pool::new(n.clamp(1, SLOTS_MAX), list.limits)
-        .map_err(|refusal| refused(list.limits_line, "make", refusal))?;
+    let pool = Pool::new(n.clamp(1, SLOTS_MAX), list.limits);
+    let mut pool = pool.expect("limits that the list tried");
     let mut slots = vec![usize::MAX; n];
     for place in parents_first(&list.transactions)? {
         let tx = &list.transactions[place];
@@ -120,7 +111,7 @@ fn pool_of(list: &List) -> Result<(Pool, Vec<usize>), Wrong> {
             .collect();
         slots[place] = pool
             .add(&tx.entry, &parents)
-            .map_err(|refusal| refused(tx.line, "add", refusal))?;
+            .map_err(|refusal| Wrong::refused(tx.line, "add", refusal))?;
     }
     Ok((pool, slots))
 }
@@ -142,12 +133,21 @@ fn parents_first(transactions: &[Transaction]) -> Result<Vec<usize>, Wrong> {
         });
         if order.len() == before {
             return Err(Wrong {
-                line: transactions[left[0]].line,
+                line: transactions[on_circle(transactions, &out, left[0])].line,
                 what: "what it depends on leads back to itself".into(),
             });
         }
     }
     Ok(order)
+}
+
+/// A place that its own parents lead back to. Where nothing is ready, who is not out has a parent that
+/// is not out; following these as often as there are places ends in a circle.
+fn on_circle(transactions: &[Transaction], out: &[bool], from: usize) -> usize {
+    transactions.iter().fold(from, |place, _| {
+        let mut parents = transactions[place].parents.iter().copied();
+        parents.find(|&p| !out[p]).expect("it is not ready")
+    })
 }
 
 /// What the pool answers, as places in the list. Deltas and marks stand by slot.

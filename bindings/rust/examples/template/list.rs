@@ -3,7 +3,7 @@
 
 use std::collections::HashMap;
 use std::fmt;
-use yaghrudil::{Entry, Limits, Terms, Txid, DELTA_MAX};
+use yaghrudil::{Entry, Limits, Pool, Refusal, Terms, Txid, DELTA_MAX};
 
 /// A transaction of the list.
 #[derive(Debug)]
@@ -20,8 +20,6 @@ pub struct Transaction {
 #[derive(Debug)]
 pub struct List {
     pub limits: Limits,
-    /// The line on which they stand; 0 where none does.
-    pub limits_line: usize,
     pub terms: Terms,
     pub transactions: Vec<Transaction>,
 }
@@ -31,6 +29,16 @@ pub struct List {
 pub struct Wrong {
     pub line: usize,
     pub what: String,
+}
+
+impl Wrong {
+    /// What the library refuses.
+    pub fn refused(line: usize, call: &str, refusal: Refusal) -> Wrong {
+        Wrong {
+            line,
+            what: format!("{call} refuses with {}: {refusal}", refusal.number()),
+        }
+    }
 }
 
 impl fmt::Display for Wrong {
@@ -113,7 +121,6 @@ pub fn read(text: &str) -> Result<List, Wrong> {
     let lines = lines_of(text);
     let mut list = List {
         limits: Limits::default(),
-        limits_line: 0,
         terms: Terms {
             budget: 3_992_000,
             reserve: 400,
@@ -224,7 +231,9 @@ fn read_limits(line: &Line, list: &mut List) -> Result<(), Wrong> {
     limits.size = line.number(&values, "size", Some(limits.size))?;
     let bytes = Some(limits.bytes_per_sigop);
     limits.bytes_per_sigop = line.number(&values, "bytes-per-sigop", bytes)?;
-    list.limits_line = line.number;
+    // tried at once, so that of two such lines the wrong one is named
+    let tried = Pool::new(1, *limits);
+    tried.map_err(|refusal| Wrong::refused(line.number, "make", refusal))?;
     Ok(())
 }
 

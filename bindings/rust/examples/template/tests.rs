@@ -78,6 +78,11 @@ fn bad_lines_are_named() {
         (&[good, "block 77"], 2, "`77` is not of the form"),
         // what the library refuses
         (&["", "limits count=65"], 2, "make refuses with 3: "),
+        (
+            &["limits count=0", "limits size=5"],
+            1,
+            "make refuses with 3: ",
+        ),
         (&["tx 1 fee=1 weight=0 sigops=0"], 1, "add refuses with 3: "),
         (
             &["tx 1 fee=1 weight=404001 sigops=0"],
@@ -100,6 +105,16 @@ fn bad_lines_are_named() {
                 "tx 2 fee=1 weight=4 sigops=0 depends=1",
             ],
             1,
+            "what it depends on leads back to itself",
+        ),
+        // the first line depends on a circle, and is not of it
+        (
+            &[
+                "tx 3 fee=1 weight=4 sigops=0 depends=1",
+                "tx 1 fee=1 weight=4 sigops=0 depends=2",
+                "tx 2 fee=1 weight=4 sigops=0 depends=1",
+            ],
+            2,
             "what it depends on leads back to itself",
         ),
     ] {
