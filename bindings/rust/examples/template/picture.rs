@@ -7,6 +7,7 @@ use std::fmt::Write;
 
 const WIDTH: f64 = 960.0;
 const HEIGHT: f64 = 600.0;
+/// Where the heading begins, and the diagram unless the numbers of its fees are long.
 const LEFT: f64 = 100.0;
 const RIGHT: f64 = 40.0;
 const TOP: f64 = 80.0;
@@ -56,6 +57,8 @@ pub fn corners(list: &List, block: &Block) -> Vec<Corner> {
 
 /// From numbers to the picture's own units.
 struct Frame {
+    /// Where the diagram begins, behind the numbers of the fees and their title.
+    left: f64,
     size: i128,
     low: i128,
     high: i128,
@@ -72,17 +75,20 @@ impl Frame {
         let budget = Some(i128::from(budget))
             .filter(|&budget| !by_sigops && (budget <= 2 * last.size || last.size == 0));
         let fees = || corners.iter().flat_map(|c| [c.fee, c.paid]);
+        let (low, high) = (fees().min().unwrap_or(0), fees().max().unwrap_or(0).max(1));
+        let digits = ticks(low, high).into_iter().map(|fee| grouped(fee).len());
         Frame {
+            left: LEFT.max(44.0 + 8.0 * digits.max().unwrap_or(0) as f64),
             size: budget.unwrap_or(last.size).max(1),
-            low: fees().min().unwrap_or(0),
-            high: fees().max().unwrap_or(0).max(1),
+            low,
+            high,
             budget,
             by_sigops,
         }
     }
 
     fn x(&self, size: i128) -> f64 {
-        LEFT + (WIDTH - LEFT - RIGHT) * (size as f64 / self.size as f64)
+        self.left + (WIDTH - self.left - RIGHT) * (size as f64 / self.size as f64)
     }
 
     fn y(&self, fee: i128) -> f64 {
@@ -126,7 +132,7 @@ pub fn draw(list: &List, block: &Block) -> String {
             "<polyline points=\"{paid}\" fill=\"none\" stroke=\"#c60\" stroke-width=\"1.5\" \
              stroke-dasharray=\"6 4\"/>"
         );
-        draw_legend(&mut svg);
+        draw_legend(&mut svg, &frame);
     }
     let fees = line_of(&frame, &corners, |corner| corner.fee);
     let _ = writeln!(
@@ -144,14 +150,14 @@ fn line_of(frame: &Frame, corners: &[Corner], of: fn(&Corner) -> i128) -> String
 }
 
 fn draw_axes(svg: &mut String, frame: &Frame) {
-    let (right, floor) = (WIDTH - RIGHT, HEIGHT - BOTTOM);
+    let (left, right, floor) = (frame.left, WIDTH - RIGHT, HEIGHT - BOTTOM);
     for fee in ticks(frame.low, frame.high) {
         let y = frame.y(fee);
         let _ = writeln!(
             svg,
-            "<path d=\"M{LEFT} {y:.1}H{right}\" stroke=\"#ddd\"/>\
+            "<path d=\"M{left} {y:.1}H{right}\" stroke=\"#ddd\"/>\
              <text x=\"{:.1}\" y=\"{:.1}\" text-anchor=\"end\">{}</text>",
-            LEFT - 8.0,
+            left - 8.0,
             y + 4.5,
             grouped(fee)
         );
@@ -171,10 +177,10 @@ fn draw_axes(svg: &mut String, frame: &Frame) {
     } else {
         "weight, summed (weight units)"
     };
-    let middle = (LEFT + right) / 2.0;
+    let middle = (left + right) / 2.0;
     let _ = writeln!(
         svg,
-        "<path d=\"M{LEFT} {TOP}V{floor}H{right}\" fill=\"none\" stroke=\"#888\"/>\n\
+        "<path d=\"M{left} {TOP}V{floor}H{right}\" fill=\"none\" stroke=\"#888\"/>\n\
          <text x=\"{middle}\" y=\"{:.1}\" text-anchor=\"middle\">{measure}</text>\n\
          <text transform=\"translate(24 {:.1}) rotate(-90)\" text-anchor=\"middle\">fees, summed (satoshi)</text>",
         HEIGHT - 22.0,
@@ -214,8 +220,8 @@ fn draw_budget(svg: &mut String, frame: &Frame) {
     );
 }
 
-fn draw_legend(svg: &mut String) {
-    let x = LEFT + 20.0;
+fn draw_legend(svg: &mut String, frame: &Frame) {
+    let x = frame.left + 20.0;
     let (first, second) = (TOP + 16.0, TOP + 36.0);
     let _ = writeln!(
         svg,

@@ -310,6 +310,28 @@ fn the_curve_bends_one_way() {
     }
 }
 
+/// Numbers of the fees of any length stand right of their title, which reaches to 30.
+#[test]
+fn long_numbers_have_room() {
+    for fee in [9, 999_999_999, 2_100_000_000_000_000u64] {
+        let tx = format!("tx 1 fee={fee} weight=400 sigops=0");
+        let list = list(&[&tx, "block minimum=0"]);
+        let svg = picture::draw(&list, &fill(&list).unwrap());
+        for label in svg.lines().filter(|line| line.contains("\"end\">")) {
+            let of = |start: &str, end: char| {
+                let rest = label.split_once(start).expect(label).1;
+                rest.split_once(end).expect(label).0.to_string()
+            };
+            let (x, text) = (of("<text x=\"", '"'), of("\"end\">", '<'));
+            let x: f64 = x.parse().expect(label);
+            assert!(
+                text == "budget" || x - 8.0 * text.len() as f64 > 30.0,
+                "{label}"
+            );
+        }
+    }
+}
+
 #[test]
 fn numbers_are_grouped() {
     let texts = [0, 999, 1000, -1234567].map(table::grouped);
