@@ -132,7 +132,7 @@ pub fn draw(list: &List, block: &Block) -> String {
             "<polyline points=\"{paid}\" fill=\"none\" stroke=\"#c60\" stroke-width=\"1.5\" \
              stroke-dasharray=\"6 4\"/>"
         );
-        draw_legend(&mut svg, &frame);
+        draw_legend(&mut svg);
     }
     let fees = line_of(&frame, &corners, |corner| corner.fee);
     let _ = writeln!(
@@ -220,9 +220,10 @@ fn draw_budget(svg: &mut String, frame: &Frame) {
     );
 }
 
-fn draw_legend(svg: &mut String, frame: &Frame) {
-    let x = frame.left + 20.0;
-    let (first, second) = (TOP + 16.0, TOP + 36.0);
+/// Beside the heading, where no curve comes.
+fn draw_legend(svg: &mut String) {
+    let x = WIDTH / 2.0 + 60.0;
+    let (first, second) = (16.0, 34.0);
     let _ = writeln!(
         svg,
         "<path d=\"M{x} {first}h36\" stroke=\"#036\" stroke-width=\"2\"/>\
