@@ -98,7 +98,7 @@ _Static_assert(sizeof(size_t) == 8, "Yaghrudil counts and positions are 64-bit")
 #define YAGHRUDIL_TXID_ABSENT 10      /* the txid is not in the pool */
 #define YAGHRUDIL_ROOM_TOO_SHORT 11   /* the room has fewer elements than the cluster has members, or the pool entries */
 #define YAGHRUDIL_TABLE_ILL_FORMED 12 /* the table is not one that the calls of a pool leave */
-#define YAGHRUDIL_INPUT_ILL_FORMED 13 /* a text is not of its form: the cluster program's answer, and of no call below */
+#define YAGHRUDIL_INPUT_ILL_FORMED 13 /* a text is not of its form: an answer of the programs, and of no call below */
 
 /* An answer in words; the text is constant and belongs to nobody. */
 static inline const char *yaghrudil_text(uint64_t answer)
@@ -227,7 +227,8 @@ uint64_t yaghrudil_pool_make(uint64_t *table, size_t table_count, yaghrudil_limi
 
 /*
  * Adds an entry and answers its slot, the lowest free one. It is linked with each of the parents that is in the pool; others, its own txid
- * and repeats are ignored. So a parent has to be added before its children: one that comes later is not linked with them.
+ * and repeats are ignored. So a parent has to be added before its children: one that comes later is not linked with them. Of a parent
+ * that is neither confirmed nor in the pool, as one that was refused, no children should be added: they would go into a block without it.
  *
  * fee: 0 to YAGHRUDIL_POOL_FEE_MAX. weight: the raw weight, YAGHRUDIL_WEIGHT_MIN to YAGHRUDIL_WEIGHT_MAX. cost: the sigop cost, any number.
  *
@@ -268,7 +269,7 @@ yaghrudil_totals yaghrudil_pool_totals(const uint64_t *table, size_t table_count
 /*
  * Selects transactions for a block: writes their slots to the start of the room, in the order in which they go into the block, each once
  * and behind its ancestors in the pool. Their raw weights together are at most the budget, and their sigop costs with the reserve at most
- * YAGHRUDIL_BLOCK_SIGOPS_MAX.
+ * YAGHRUDIL_BLOCK_SIGOPS_MAX; where the reserve alone is more, none is selected.
  *
  * deltas and withheld stand by slot, and have as many elements as the pool has slots; those of free slots are not looked at. A delta, from
  * YAGHRUDIL_DELTA_MIN to YAGHRUDIL_DELTA_MAX, is added to its entry's fee. A mark other than 0 keeps its entry out, and with it all that

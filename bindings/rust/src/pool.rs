@@ -82,7 +82,7 @@ pub struct Terms {
     /// the header and the coinbase take, usually 8,000. With 0 the template is empty.
     pub budget: u64,
     /// The sigop cost that is kept for the coinbase, usually 400. With the template's it is at most
-    /// [`BLOCK_SIGOPS_MAX`].
+    /// [`BLOCK_SIGOPS_MAX`]; where it is more by itself, the template is empty.
     pub reserve: u64,
     /// The least feerate of a chunk, in satoshi per 1,000 vbytes; 0 lets all pass that do not pay
     /// less than nothing.
@@ -190,7 +190,8 @@ impl<M: AsRef<[u64]> + AsMut<[u64]>> Pool<M> {
     ///
     /// It is linked with each of the parents that is in the pool; others, its own txid and repeats
     /// are ignored. So a parent has to be added before its children: one that comes later is not
-    /// linked with them.
+    /// linked with them. Of a parent that is neither confirmed nor in the pool, as one that was
+    /// refused, no children should be added: they would go into a block without it.
     ///
     /// Refuses with the first that holds of [`Refusal::TableIllFormed`], [`Refusal::OutOfRange`],
     /// [`Refusal::TxidPresent`], [`Refusal::NoSlotFree`], [`Refusal::ClusterTooMany`],

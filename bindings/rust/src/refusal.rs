@@ -37,7 +37,7 @@ pub enum Refusal {
     RoomTooShort = 11,
     /// The table is not one that the calls of a pool leave.
     TableIllFormed = 12,
-    /// A text is not of its form: the cluster program's answer, and of no call of this crate.
+    /// A text is not of its form: an answer of the programs, and of no call of this crate.
     InputIllFormed = 13,
 }
 
