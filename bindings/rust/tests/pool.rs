@@ -340,6 +340,38 @@ fn template_refuses() {
     }
 }
 
+/// Of the fewest slots and of the most.
+#[test]
+fn full_pools_give_templates() {
+    for slots in [1, SLOTS_MAX] {
+        let mut pool = pool(slots);
+        for n in 0..slots {
+            assert_eq!(pool.add(&entry(n as u16), &[]), Ok(n));
+        }
+        refuses(&mut pool, Refusal::NoSlotFree, |pool| {
+            pool.add(&entry(u16::MAX), &[])
+        });
+        // all pay the same, and so they go by txid
+        let all: Vec<usize> = (0..slots).collect();
+        let selected = template(&pool, &vec![0; slots], &vec![0; slots], WIDE);
+        assert_eq!(selected, Ok(all));
+    }
+}
+
+/// Two threads ask one pool at the same time, and then another has it.
+#[test]
+fn pools_go_between_threads() {
+    let pool = family();
+    let ask = || template(&pool, &[0; 4], &[0; 4], WIDE);
+    std::thread::scope(|scope| {
+        for asked in [scope.spawn(ask), scope.spawn(ask)] {
+            assert_eq!(asked.join().unwrap(), Ok(vec![0, 1, 2]));
+        }
+    });
+    let taken = std::thread::spawn(move || pool.totals());
+    assert_eq!(taken.join().unwrap().map(|totals| totals.entries), Ok(3));
+}
+
 #[test]
 fn memory_can_be_lent() {
     let mut words = vec![u64::MAX; table_words(2)];
