@@ -62,6 +62,8 @@ enum Kind {
     Link,
     /// A weight and the total.
     WeightAndTotal,
+    /// A txid, which is another entry's then. One word of it hardly ever makes two the same.
+    Twin,
 }
 
 impl Kind {
@@ -79,7 +81,7 @@ impl Kind {
         Kind::Children,
         Kind::FreeSlot,
     ];
-    const TOGETHER: [Kind; 3] = [Kind::Link, Kind::Link, Kind::WeightAndTotal];
+    const TOGETHER: [Kind; 4] = [Kind::Link, Kind::Link, Kind::WeightAndTotal, Kind::Twin];
 
     fn is_one_word(self) -> bool {
         Kind::ONE_WORD.contains(&self)
@@ -187,6 +189,7 @@ impl Valid {
             Kind::FreeSlot => row(&self.free, rng)? + rng.index(ROW),
             Kind::Link => return self.relinked(table, rng),
             Kind::WeightAndTotal => return self.reweighted(table, rng),
+            Kind::Twin => return self.twinned(table, rng),
         };
         while table[at] == self.table[at] {
             table[at] = self.another(at, rng);
@@ -261,6 +264,19 @@ impl Valid {
         }
         let others = table[3].wrapping_sub(self.table[at]);
         table[3] = others.wrapping_add(table[at]);
+        Some(table)
+    }
+
+    /// An entry's txid in the place of another's.
+    fn twinned(&self, mut table: Vec<u64>, rng: &mut Rng) -> Option<Vec<u64>> {
+        let count = self.taken.len();
+        if count < 2 {
+            return None;
+        }
+        let from = rng.index(count);
+        let to = (from + 1 + rng.index(count - 1)) % count;
+        let [from, to] = [from, to].map(|place| HEADER + ROW * self.taken[place]);
+        table.copy_within(from..from + 4, to);
         Some(table)
     }
 
