@@ -28,6 +28,27 @@ impl OriginalPool {
         }
     }
 
+    /// With the entries of a pool that stands, parents first.
+    pub fn of(pool: &Pool) -> Self {
+        let mut original = OriginalPool::new(pool.limits);
+        while original.graph.len() < pool.entries.len() {
+            for (txid, entry) in &pool.entries {
+                let ready = entry.parents.iter().all(|parent| original.has(parent));
+                if ready && !original.has(txid) {
+                    let new = Newcomer {
+                        txid: *txid,
+                        fee: entry.fee,
+                        weight: entry.weight,
+                        cost: entry.cost,
+                        parents: entry.parents.iter().flatten().copied().collect(),
+                    };
+                    original.add(&new, entry.slot);
+                }
+            }
+        }
+        original
+    }
+
     pub fn has(&self, txid: &Txid) -> bool {
         self.graph.contains(&bitcoin::Txid(*txid))
     }

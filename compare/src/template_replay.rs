@@ -1,5 +1,5 @@
 //! A fixed list of templates on pools with the answers of the second reading, for a program that replays them without
-//! Rust. The lines are those of pool_replay.rs, answered as there, and these:
+//! Rust; they are the original's, too, wherever its order is determined. The lines are those of pool_replay.rs, answered as there, and these:
 //!
 //! | line | what is done |
 //! |---|---|
@@ -12,10 +12,12 @@
 //! number stand before each template. The answer is a line: number, places written, a sum over all places of the room, a
 //! sum over all words of the table, and then the written places.
 
-use crate::pool::MOST_FEE;
+use crate::determined;
+use crate::original_pool::OriginalPool;
+use crate::pool::{Pool, MOST_FEE};
 use crate::pool_replay::{digest, words, List};
 use crate::rng::Rng;
-use crate::template::{template, Asked};
+use crate::template::{chunks, template, Asked};
 use std::path::Path;
 
 const SEED: u64 = 500;
@@ -38,7 +40,9 @@ pub fn write(folder: &Path) -> Result<(), String> {
     refusals(&mut cases);
     full(&mut cases);
     histories(&mut cases);
+    let [all, not_empty] = cases.original;
     println!("{} templates, {} not empty", cases.all, cases.not_empty);
+    println!("{all} of them determined and the original's, {not_empty} not empty");
     cases.list.write(folder, SEED)
 }
 
@@ -50,6 +54,8 @@ struct Cases {
     slots: usize,
     all: u64,
     not_empty: u64,
+    /// How many of these the original answered, and how many of them are not empty.
+    original: [u64; 2],
 }
 
 impl Cases {
@@ -61,6 +67,7 @@ impl Cases {
             slots: 0,
             all: 0,
             not_empty: 0,
+            original: [0, 0],
         }
     }
 
@@ -114,9 +121,24 @@ impl Cases {
         let table = &self.list.table[..self.list.lent];
         let (number, written) = template(table, &asked, &mut places[..room]);
         self.told(number, written, &places);
-        match number {
-            0 => Ok(places[..written].to_vec()),
-            _ => Err(number),
+        if number != 0 {
+            return Err(number);
+        }
+        self.hold(&asked, &places[..written]);
+        Ok(places[..written].to_vec())
+    }
+
+    /// Holds a template against the original's, wherever that one's order is determined.
+    fn hold(&mut self, asked: &Asked, slots: &[usize]) {
+        let pool = Pool::read(&self.list.table[..self.list.lent]).expect("it was answered");
+        let original = OriginalPool::of(&pool);
+        let same_links = original.same_links(&pool);
+        if determined::broken(&pool, &chunks(&pool, asked), same_links).is_empty() {
+            let selected = original.template(&pool, asked);
+            let selected = selected.iter().map(|one| pool.entries[&one.txid.0].slot);
+            assert_eq!(selected.collect::<Vec<_>>(), slots, "of {pool:?}");
+            self.original[0] += 1;
+            self.original[1] += u64::from(!slots.is_empty());
         }
     }
 
