@@ -19,13 +19,15 @@ fn main() {
 
 /// The folder that the caller named; what machine its archive is for is the caller's affair.
 fn named(folder: PathBuf) -> PathBuf {
-    if !folder.join(ARCHIVE).is_file() {
-        stop(&format!(
-            "YAGHRUDIL_LIB names {}, where there is no {ARCHIVE}",
+    // whole, since the linker does not run where this script does
+    match folder.canonicalize() {
+        Ok(whole) if whole.join(ARCHIVE).is_file() => whole,
+        _ => stop(&format!(
+            "YAGHRUDIL_LIB names {}, where there is no {ARCHIVE}; \
+             a path that is not absolute is seen from the folder of this package",
             folder.display()
-        ));
+        )),
     }
-    folder
 }
 
 /// The folder in which the prover writes archives.
