@@ -3,7 +3,7 @@
 
 use crate::list::{List, Transaction, Wrong};
 use std::cmp::Ordering;
-use yaghrudil::{chunk_lengths, linearize, Pool, Terms, Txid, BLOCK_SIGOPS_MAX, SLOTS_MAX};
+use yaghrudil::{chunk_lengths, linearize, Pool, Terms, Txid, BLOCK_SIGOPS_MAX};
 
 /// A chunk of a cluster: transactions that are mined together, as places in the list.
 #[derive(Debug)]
@@ -99,8 +99,7 @@ pub fn fill(list: &List) -> Result<Block, Wrong> {
 /// A pool with the list in it, parents before children, and the slot of each transaction.
 fn pool_of(list: &List) -> Result<(Pool, Vec<usize>), Wrong> {
     let n = list.transactions.len();
-    let pool = Pool::new(n.clamp(1, SLOTS_MAX), list.limits);
-    let mut pool = pool.expect("limits that the list tried");
+    let mut pool = Pool::new(n.max(1), list.limits).expect("numbers that the list tried");
     let mut slots = vec![usize::MAX; n];
     for place in parents_first(&list.transactions)? {
         let tx = &list.transactions[place];

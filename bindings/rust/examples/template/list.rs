@@ -3,7 +3,7 @@
 
 use std::collections::HashMap;
 use std::fmt;
-use yaghrudil::{Entry, Limits, Pool, Refusal, Terms, Txid, DELTA_MAX};
+use yaghrudil::{Entry, Limits, Pool, Refusal, Terms, Txid, DELTA_MAX, SLOTS_MAX};
 
 /// A transaction of the list.
 #[derive(Debug)]
@@ -169,6 +169,9 @@ fn read_transaction(line: &Line, list: &mut List) -> Result<(), Wrong> {
     let Some(txid) = stored(name) else {
         return line.wrong(format!("`{name}` is not 64 hexadecimal digits"));
     };
+    if list.transactions.len() == SLOTS_MAX {
+        return line.wrong(format!("a pool has {SLOTS_MAX} transactions at most"));
+    }
     let twin = list.transactions.iter().find(|t| t.entry.txid == txid);
     if let Some(twin) = twin {
         return line.wrong(format!("the txid stands on line {} already", twin.line));

@@ -125,6 +125,18 @@ fn bad_lines_are_named() {
 }
 
 #[test]
+fn a_list_has_as_many_transactions_as_a_pool() {
+    let line = |k: usize| format!("tx {k:064x} fee=1000 weight=400 sigops=0\n");
+    let most: String = (0..1024).map(line).collect();
+    assert_eq!(fill(&read(&most).unwrap()).unwrap().selected.len(), 1024);
+    let wrong = read(&(most + &line(1024))).unwrap_err();
+    assert_eq!(
+        wrong.to_string(),
+        "1025: a pool has 1024 transactions at most"
+    );
+}
+
+#[test]
 fn a_line_that_is_no_text_is_named() {
     let wrong = answer(b"# good\n# \xff\n".to_vec()).unwrap_err();
     assert_eq!(wrong.to_string(), "2: this line is not text (UTF-8)");
