@@ -3,7 +3,7 @@
 // products; the rest by products of two words.
 ghost use mathlib.Core.Path.{_≡_};
 ghost use mathlib.Core.Bool.{true};
-ghost use Prim.Native.Nat.{_+_};
+ghost use Prim.Native.Nat.{_+_, _*_};
 ghost use lib.IntN.{natAbs};
 ghost use lib.Dec.{eqb};
 ghost use Rattle.feefrac.specs.Rate.{rateOrder, sizeOrder};
@@ -58,30 +58,36 @@ fn compare_narrow(a: FeeFrac, b: FeeFrac) -> Ordering
     Ordering::Equal
 }
 
-// By the signs of the fees, then by the products of their sizes without sign.
+// By the signs of the fees, then by the products without sign. Each way makes its own products: so this stays too long to be put
+// into its callers.
 fn compare_wide(a: FeeFrac, b: FeeFrac) -> Ordering
     ensures { λ r. ⌜ r ≡ rateOrder a b ⌝ }
 {
     let af = a.fee;
     let bf = b.fee;
-    let x = mul_wide(magnitude(af), b.size);
-    let y = mul_wide(magnitude(bf), a.size);
     if af < 0 {
         if bf < 0 {
-            return compare_words(y, x);
+            return compare_words(product(bf, a.size), product(af, b.size));
         }
-        if both_zero(x, y) {
+        if both_zero(product(af, b.size), product(bf, a.size)) {
             return Ordering::Equal;
         }
         return Ordering::Less;
     }
     if bf < 0 {
-        if both_zero(x, y) {
+        if both_zero(product(af, b.size), product(bf, a.size)) {
             return Ordering::Equal;
         }
         return Ordering::Greater;
     }
-    compare_words(x, y)
+    compare_words(product(af, b.size), product(bf, a.size))
+}
+
+// The fee without its sign, times the size.
+fn product(fee: i64, size: u64) -> Wide
+    ensures { λ r. ⌜ value r ≡ natAbs fee * size ⌝ }
+{
+    mul_wide(magnitude(fee), size)
 }
 
 // The size of a number without its sign.

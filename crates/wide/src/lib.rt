@@ -34,7 +34,8 @@ impl Wide {
     }
 }
 
-// The product of two words, by digits of 32 bits. Wrapping add builds the low word; a sum below its addend means a carry.
+// The product of two words, by digits of 32 bits. Wrapping adds build the sum of the middle products and the low word; a sum below its
+// addend means a carry. The compiler knows this form and makes one multiplication of it.
 pub fn mul_wide(x: u64, y: u64) -> Wide
     ensures { λ r. ⌜ value r ≡ x * y ⌝ }
 {
@@ -46,10 +47,13 @@ pub fn mul_wide(x: u64, y: u64) -> Wide
     let p01 = x0 * y1;
     let p10 = x1 * y0;
     let p11 = x1 * y1;
-    let once = std::num::wrapping_add_u64(p00, p01 % 4_294_967_296 * 4_294_967_296);
-    let lo = std::num::wrapping_add_u64(once, p10 % 4_294_967_296 * 4_294_967_296);
-    let carries = carry(once, p00) + carry(lo, once);
-    let hi = p11 + p01 / 4_294_967_296 + p10 / 4_294_967_296 + carries;
+    let middle = std::num::wrapping_add_u64(p10, p01);
+    let upper = middle % 4_294_967_296 + p00 / 4_294_967_296;
+    let lo = std::num::wrapping_add_u64(p00 % 4_294_967_296, upper % 4_294_967_296 * 4_294_967_296);
+    let hi = p11
+        + middle / 4_294_967_296
+        + upper / 4_294_967_296
+        + carry(middle, p10) * 4_294_967_296;
     Wide { hi, lo }
 }
 

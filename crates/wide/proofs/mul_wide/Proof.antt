@@ -1,4 +1,4 @@
--- The products of the digits leave room in the high word for two carries, and what the low word lost by wrapping comes back by them.
+-- The products of the digits leave room in the high word for a carry, and what the sum of the middle ones lost by wrapping comes back by it.
 use borrow.Author.Needs.{needs}
 use native.Mathlib.Omega.{arith}
 use mathlib.Core.Path.{_≡_}
@@ -21,31 +21,25 @@ small c = record {
   p11 = digit-product (omega arith) (omega arith);
 }
 
-module _ (c : tie.After-carry2) where
+module _ (c : tie.After-carry) where
   abbrev start : tie.Start
-  start = c .before .before .before .before
+  start = c .before .before .before
 
-  once : 18446744073709551616 * c .before .carry .result + c .before .before .before .wrapping-add-u64 .result
-      ≡ start .args .x % 4294967296 * (start .args .y % 4294967296) + start .args .x % 4294967296 * (start .args .y / 4294967296) % 4294967296 * 4294967296
-  once =
-      carried _ _ _ (c .before .carry .ensures) _
+  abbrev middle : ℕ
+  middle = c .before .before .wrapping-add-u64 .result
+
+  -- the middle products, with what their sum lost
+  middles : 18446744073709551616 * c .carry .result + middle
+      ≡ start .args .x / 4294967296 * (start .args .y % 4294967296) + start .args .x % 4294967296 * (start .args .y / 4294967296)
+  middles =
+      carried _ _ _ (c .carry .ensures) _
       (omega (arith, small start))
-      (omega arith)
-      (c .before .before .before .wrapping-add-u64 .ensures)
-
-  twice : 18446744073709551616 * c .carry2 .result + c .before .before .wrapping-add-u642 .result
-      ≡ c .before .before .before .wrapping-add-u64 .result + start .args .x / 4294967296 * (start .args .y % 4294967296) % 4294967296 * 4294967296
-  twice =
-      carried _ _ _ (c .carry2 .ensures) _
-      (omega (arith, c .before .before .before .wrapping-add-u64 .ensures))
-      (omega arith)
-      (c .before .before .wrapping-add-u642 .ensures)
-
-  few : c .before .carry .result + c .carry2 .result ≤ 2
-  few = omega (arith, carry-small _ _ _ (c .before .carry .ensures), carry-small _ _ _ (c .carry2 .ensures))
+      (omega (arith, small start))
+      (c .before .before .wrapping-add-u64 .ensures)
 
 returns : tie.Need-returns
-returns c = omega (arith, once c, twice c, by-digits (c .before .before .before .before .args .x) (c .before .before .before .before .args .y))
+returns c =
+    omega (arith, middles c, c .before .wrapping-add-u642 .ensures, by-digits (start c .args .x) (start c .args .y))
 
 pub mul-wide-spec : {M : Type 1} → statement M
 mul-wide-spec =
@@ -55,14 +49,13 @@ mul-wide-spec =
     (λ c. omega (arith, small c))
     (λ c. omega (arith, small c))
     (λ c. omega (arith, small c))
-    (λ c. search needs)
     (λ c κs. search needs)
-    (λ c. search needs)
+    (λ c. omega (arith, small (c .before)))
+    (λ c. omega arith)
     (λ c κs. search needs)
+    (λ c. omega (arith, small (c .before .before)))
+    (λ c. omega (arith, small (c .before .before)))
     (λ c κs. search needs)
-    (λ c κs. search needs)
-    (λ c. omega (arith, few c))
-    (λ c. omega (arith, small (start c)))
-    (λ c. omega (arith, small (start c)))
-    (λ c. omega (arith, few c, small (start c)))
+    (λ c. omega (arith, carry-small _ _ _ (c .carry .ensures)))
+    (λ c. omega (arith, middles c, small (start c), carry-small _ _ _ (c .carry .ensures)))
     returns)
