@@ -1,24 +1,25 @@
 -- Theorems for readers of specs/Graph.antt: the computed closure is the inductive one, ancestors are ordered where no one is above itself,
 -- an ancestor has fewer ancestors, and there is one graph for the same parents. Assumes nothing.
-use mathlib.Core.Path.{_≡_, sym, ap, ap₂, _∙_}
+use mathlib.Core.Path.{_≡_, sym, ap, _∙_, subst}
 use mathlib.Core.Bool.{Bool, true, false, _||_}
 use mathlib.Core.Logic.{⊎-elim}
 use mathlib.Core.List.{List}
 use Prim.Native.Nat.{ℕ, _<_}
 use native.Mathlib.Omega.{arith}
 use lib.Dec.{eqb, ltb}
-use lib.ListN.{length}
+use lib.ListN.{length, take}
+use lib.Seq.{take-all}
 use borrow.Author.Tests.{lt-ltb, ltb-true}
 use Rattle.lists.specs.Below.{countFrom}
 use Rattle.lists.proofs.Bools.{and-both}
 use Rattle.lists.proofs.Below.{count-ext}
-use Rattle.txset.specs.Sets.{setWords}
+use Rattle.txset.specs.Sets.{positions}
 use Rattle.ways.proofs.Ways.{reach-is, is-reach, way-from, way-to}
 use Rattle.ways.proofs.Cycles as cycles
 use Rattle.txset.proofs.Words.{Fits}
 use Rattle.txset.proofs.Theorems.{sets-ext}
 use Rattle.depgraph.specs.declared.DepGraph.{DepGraph}
-use Rattle.depgraph.specs.Closed.{Closed}
+use Rattle.depgraph.specs.Closed.{Room, Closed, placed}
 use Rattle.depgraph.specs.Graph.{isParent, Above, isAbove, isAncestor, isCyclic}
 use Rattle.depgraph.proofs.Parents.{among}
 
@@ -75,24 +76,30 @@ fewer ps i a acyclic u n =
     all : (i : ℕ) → i < length ps → countFrom (cycles.onward (isParent ps) (length ps) i) (length ps) 0 ≡ countFrom (isAncestor ps i) (length ps) 0
     all i l = count-ext (cycles.onward (isParent ps) (length ps) i) (isAncestor ps i) (length ps) 0 (λ a _ _. whole ps i a l)
 
+-- ---- where each member has a place, the graph is that of all of them
+
+pub graph-whole : {ps up₀ down₀ up down : List ℕ} {g : DepGraph} → Room (length ps) up₀ down₀ → Closed (placed ps up₀ down₀) up down g → Closed ps up down g
+graph-whole {ps} {up₀} {down₀} {up} {down} {g} r c =
+    let all : placed ps up₀ down₀ ≡ ps =
+    ap (λ (l : List ℕ). take (length down₀) (take (length up₀) l)) (take-all positions ps (r .few))
+    ∙ ap (take (length down₀)) (take-all (length up₀) ps (r .ups))
+    ∙ take-all (length down₀) ps (r .downs) in
+    subst (λ (l : List ℕ). Closed l up down g) all c
+
 -- ---- one graph for the same parents
 
--- the tables of a graph, as a machine has them: 64 sets each, every one a word below 2^64
-pub record Tables (g : DepGraph) : Type 0 where
-  pub ancestors-long : length (g .ancestors) ≡ setWords
-  pub descendants-long : length (g .descendants) ≡ setWords
-  pub ancestors-fit : Fits (g .ancestors)
-  pub descendants-fit : Fits (g .descendants)
+-- the tables of a graph, as a machine has them: words below 2^64, as many as were lent
+pub record Tables (u d : ℕ) (up down : List ℕ) : Type 0 where
+  pub ups-long : length up ≡ u
+  pub downs-long : length down ≡ d
+  pub ups-fit : Fits up
+  pub downs-fit : Fits down
 
--- two graphs that are closed for the same parents are one value: `Closed` allows one outcome only
-pub graph-ext : (ps : List ℕ) (g h : DepGraph) → Tables g → Tables h → Closed ps g → Closed ps h → g ≡ h
-graph-ext ps g h s t c d =
-    let a : g .ancestors ≡ h .ancestors =
-    sets-ext (g .ancestors) (h .ancestors) (s .ancestors-long ∙ sym (t .ancestors-long)) (s .ancestors-fit) (t .ancestors-fit)
-    (λ i a. c .ancestors i a ∙ sym (d .ancestors i a)) in
-    let b : g .descendants ≡ h .descendants =
-    sets-ext (g .descendants) (h .descendants) (s .descendants-long ∙ sym (t .descendants-long)) (s .descendants-fit) (t .descendants-fit)
-    (λ i a. c .descendants i a ∙ sym (d .descendants i a)) in
-    let e : g .cyclic ≡ h .cyclic = c .cyclic ∙ sym (d .cyclic) in
-    ap₂ {C = DepGraph} (λ (u v : List ℕ). record { ancestors = u; descendants = v; cyclic = g .cyclic }) a b
-    ∙ ap {B = DepGraph} (λ (x : Bool). record { ancestors = h .ancestors; descendants = h .descendants; cyclic = x }) e
+-- what is closed for the same parents is the same, the tables and the graph: `Closed` allows one outcome only
+pub graph-ext : (ps : List ℕ) {u d : ℕ} {up down up' down' : List ℕ} (g h : DepGraph) → Tables u d up down → Tables u d up' down'
+    → Closed ps up down g → Closed ps up' down' h → (up ≡ up') × (down ≡ down') × (g ≡ h)
+graph-ext ps {up = up} {down} {up'} {down'} g h s t c e = (
+  sets-ext up up' (s .ups-long ∙ sym (t .ups-long)) (s .ups-fit) (t .ups-fit) (λ i a. c .ancestors i a ∙ sym (e .ancestors i a)),
+  sets-ext down down' (s .downs-long ∙ sym (t .downs-long)) (s .downs-fit) (t .downs-fit) (λ i a. c .descendants i a ∙ sym (e .descendants i a)),
+  ap {B = DepGraph} (λ (b : Bool). record { cyclic = b }) (c .cyclic ∙ sym (e .cyclic)),
+)

@@ -1,17 +1,16 @@
 -- What the steps of `DepGraph::new` hand to each other: no contract outside this crate cites this. Assumes nothing.
-use Prim.Native.Nat.{ℕ}
+use Prim.Native.Nat.{ℕ, _≤_}
 use mathlib.Core.Path.{_≡_}
 use mathlib.Core.Bool.{Bool, false, _&&_, _||_}
 use mathlib.Core.List.{List}
-use lib.ListN.{length}
+use lib.ListN.{length, take}
 use lib.Dec.{eqb, ltb}
 use Rattle.lists.specs.Below.{anyFrom}
-use Rattle.txset.specs.Sets.{mem, setAt, setWords}
+use Rattle.txset.specs.Sets.{mem, setAt}
+use Rattle.depgraph.specs.Closed.{Room, placed}
 
 -- the two lists of sets hold the relation f, once from each side: a is in the i-th set of `up`, and i in the a-th of `down`, exactly where f i a
 pub record Holds (f : ℕ → ℕ → Bool) (up down : List ℕ) : Type 0 where
-  pub ups : length up ≡ setWords
-  pub downs : length down ≡ setWords
   pub above : (i a : ℕ) → mem (setAt up i) a ≡ f i a
   pub below : (i a : ℕ) → mem (setAt down a) i ≡ f i a
 
@@ -27,3 +26,9 @@ withOwn i f j a = f j a || (ltb j i && eqb j a)
 pub record Owning (f : ℕ → ℕ → Bool) (i : ℕ) (up down : List ℕ) (cyclic : Bool) : Type 0 where
   pub sets : Holds (withOwn i f) up down
   pub cycle : cyclic ≡ anyFrom (λ j. f j j) i 0
+
+-- n is how many of the members with the parents ps have a place
+pub record Placed (ps up down : List ℕ) (n : ℕ) : Type 0 where
+  pub there : n ≤ length ps
+  pub room : Room n up down
+  pub same : take n ps ≡ placed ps up down

@@ -4,50 +4,71 @@
 ghost use Prim.Native.Nat.{ℕ, _≤_};
 ghost use lib.ListN.{length, take};
 ghost use mathlib.Core.Path.{_≡_};
-ghost use mathlib.Core.Bool.{Bool, _&&_};
+ghost use mathlib.Core.Bool.{Bool, false, _&&_};
 ghost use Rattle.ways.specs.Ways.{reach};
-ghost use Rattle.txset.specs.Sets.{positions, mem};
+ghost use Rattle.txset.specs.Sets.{mem, setAt};
 ghost use Rattle.depgraph.specs.Graph.{isParent};
-ghost use Rattle.depgraph.specs.Closed.{Closed};
-ghost use Rattle.depgraph.specs.Steps.{Holds, nothing, Owning};
+ghost use Rattle.depgraph.specs.Closed.{Room, Closed, placed};
+ghost use Rattle.depgraph.specs.Steps.{Holds, nothing, Owning, Placed};
 use txset::POSITIONS;
-use txset::SET_WORDS;
 use txset::TxSet;
 
-// A set of ancestors and one of descendants for each position, each with the position itself; empty past the members.
+// A graph whose two tables are lent: a set of ancestors and one of descendants for each position, each with the position itself.
 // `cyclic` says whether some member is above itself.
 pub struct DepGraph {
-    pub ancestors: [u64; SET_WORDS],
-    pub descendants: [u64; SET_WORDS],
     pub cyclic: bool,
 }
 
 impl DepGraph {
-    // The graph of the members with these parents, or of the first of them where they are more than the positions.
-    pub fn new(parents: &[u64]) -> DepGraph
-        ensures { λ r. ⌜ Closed (take positions (now (parents .entry))) r ⌝ }
+    // The graph of the members with these parents, or of the first of them where they are more than the positions or the sets of a table.
+    // Past the members the tables are empty, whatever they held.
+    pub fn new(parents: &[u64], ancestors: &mut [u64], descendants: &mut [u64]) -> DepGraph
+        ensures { λ r. ⌜ Closed (placed (now (parents .entry)) (now (ancestors .entry)) (now (descendants .entry)))
+            (now (ancestors .exit)) (now (descendants .exit)) r ⌝ }
     {
-        let mut n = parents.len();
-        if POSITIONS < n {
-            n = POSITIONS;
-        }
-        let mut ancestors = [0u64; SET_WORDS];
-        let mut descendants = [0u64; SET_WORDS];
-        link(parents, n, &mut ancestors, &mut descendants);
-        close(n, &mut ancestors, &mut descendants);
-        let cyclic = include_self(n, &mut ancestors, &mut descendants);
-        DepGraph {
-            ancestors,
-            descendants,
-            cyclic,
-        }
+        let n = places(parents, ancestors, descendants);
+        clear(ancestors);
+        clear(descendants);
+        link(parents, n, ancestors, descendants);
+        close(n, ancestors, descendants);
+        let cyclic = include_self(n, ancestors, descendants);
+        DepGraph { cyclic }
+    }
+}
+
+// How many of the members have a place.
+fn places(parents: &[u64], ancestors: &[u64], descendants: &[u64]) -> usize
+    ensures { λ r. ⌜ Placed (now (parents .entry)) (now (ancestors .entry)) (now (descendants .entry)) r ⌝ }
+{
+    let mut n = parents.len();
+    if POSITIONS < n {
+        n = POSITIONS;
+    }
+    if ancestors.len() < n {
+        n = ancestors.len();
+    }
+    if descendants.len() < n {
+        n = descendants.len();
+    }
+    n
+}
+
+// Makes every set empty.
+fn clear(sets: &mut [u64])
+    ensures { λ _. ⌜ ((i a : ℕ) → mem (setAt (now (sets .exit)) i) a ≡ false) ⌝ }
+{
+    let mut i: usize = 0;
+    // The first i are empty.
+    while i < sets.len() {
+        TxSet::empty().put(sets, i);
+        i += 1;
     }
 }
 
 // Enters each member's parents, and the member with each of them.
 fn link(parents: &[u64], n: usize, ancestors: &mut [u64], descendants: &mut [u64])
     requires { ⌜ n ≤ length (now parents) ⌝ }
-    requires { ⌜ n ≤ positions ⌝ }
+    requires { ⌜ Room n (now ancestors) (now descendants) ⌝ }
     requires { ⌜ Holds nothing (now ancestors) (now descendants) ⌝ }
     ensures { λ _. ⌜ Holds (isParent (take n (now (parents .entry)))) (now (ancestors .exit)) (now (descendants .exit)) ⌝ }
 {
@@ -90,7 +111,7 @@ fn gaining(walk: TxSet, set: TxSet) -> TxSet
 
 // Adds each member to its own sets, and answers whether one was above itself.
 fn include_self(n: usize, ancestors: &mut [u64], descendants: &mut [u64]) -> bool
-    requires { ⌜ n ≤ positions ⌝ }
+    requires { ⌜ Room n (now ancestors) (now descendants) ⌝ }
     ensures { λ r. ⌜ ((f : ℕ → ℕ → Bool) → Holds f (now (ancestors .entry)) (now (descendants .entry))
         → Owning f n (now (ancestors .exit)) (now (descendants .exit)) r) ⌝ }
 {

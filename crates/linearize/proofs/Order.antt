@@ -23,7 +23,7 @@ use Rattle.candidates.proofs.Theorems.{as-many}
 use Rattle.output_order.specs.Output
 use Rattle.output_order.specs.Output.{outputOrder}
 use Rattle.linearize.specs.Linearize.{linearOrder}
-use Rattle.linearize.specs.Steps.{stepsOf, Ready}
+use Rattle.linearize.specs.Steps.{stepsOf, Checked, Ready}
 
 nothing-behind : {n : ℕ} (xs ys : List ℕ) → length ys ≡ n → xs ++ drop n ys ≡ xs
 nothing-behind {n} xs ys e =
@@ -57,26 +57,25 @@ module _ (fs : List ℤ) (ss A D order room : List ℕ) (r : Ready fs A order ro
       let long : k ≡ length (outputOrder fs ss (memAt A) last) = h ∙ rw fit in
       (long ∙ rw fore, w ∙ rw (fit, ← long, fore))
 
--- what the steps ask, of the graph of the members
-pub ready : {fs : List ℤ} {ps order room : List ℕ} {g : DepGraph} → Closed ps g → length ps ≡ length fs → length fs ≤ positions
-    → length order ≡ length fs → length fs ≤ length room → Ready fs (g .ancestors) order room
-ready {fs} {ps} c e h o w = record {
-  few = h;
-  own = λ i l. c .ancestors i i ∙ ancestor-refl ps i (omega arith);
-  long = o;
-  wide = w;
-}
+module _ (fs : List ℤ) {ps up down : List ℕ} {g : DepGraph} (c : Closed ps up down g) where
+  -- what the steps ask, of the graph of the members
+  pub ready : {order room : List ℕ} → Checked fs ps room → length order ≡ length fs → Ready fs up order room
+  ready h o = record {
+    few = h .few;
+    own = λ i l. c .ancestors i i ∙ ancestor-refl ps i (omega (arith, h .same));
+    long = o;
+    wide = h .wide;
+  }
 
--- of that graph the steps give the order of the cluster
-pub is-linear : (fs : List ℤ) (ss : List ℕ) {ps : List ℕ} {g : DepGraph} → Closed ps g
-    → stepsOf fs ss (memAt (g .ancestors)) (memAt (g .descendants)) ≡ linearOrder fs ss ps
-unfolding stepsOf linearOrder postLinearize
-is-linear fs ss c = ap₂ (λ (a d : ℕ → ℕ → Bool). outputOrder fs ss a (forwardPass fs ss a (backPass fs ss d (ancestorOrder fs ss a d)))) (ancestors-are c) (descendants-are c)
+  -- of that graph the steps give the order of the cluster
+  is-linear : (ss : List ℕ) → stepsOf fs ss (memAt up) (memAt down) ≡ linearOrder fs ss ps
+  unfolding stepsOf linearOrder postLinearize
+  is-linear ss =
+      ap₂ (λ (a d : ℕ → ℕ → Bool). outputOrder fs ss a (forwardPass fs ss a (backPass fs ss d (ancestorOrder fs ss a d)))) (ancestors-are c) (descendants-are c)
 
-pub linear-done : (fs : List ℤ) (ss room : List ℕ) {ps : List ℕ} {g : DepGraph} (k : ℕ) (out : List ℕ) → Closed ps g
-    → k ≡ length (stepsOf fs ss (memAt (g .ancestors)) (memAt (g .descendants)))
-    → out ≡ stepsOf fs ss (memAt (g .ancestors)) (memAt (g .descendants)) ++ drop k room
-    → (k ≡ length (linearOrder fs ss ps)) × (out ≡ overwrite (linearOrder fs ss ps) room)
-linear-done fs ss room {ps} k out c e f =
-    let n : k ≡ length (linearOrder fs ss ps) = e ∙ ap length (is-linear fs ss c) in
-    (n, f ∙ ap₂ _++_ (is-linear fs ss c) (ap (λ (j : ℕ). drop j room) n))
+  pub linear-done : (ss room : List ℕ) (k : ℕ) (out : List ℕ) → k ≡ length (stepsOf fs ss (memAt up) (memAt down))
+      → out ≡ stepsOf fs ss (memAt up) (memAt down) ++ drop k room
+      → (k ≡ length (linearOrder fs ss ps)) × (out ≡ overwrite (linearOrder fs ss ps) room)
+  linear-done ss room k out e f =
+      let n : k ≡ length (linearOrder fs ss ps) = e ∙ ap length (is-linear ss) in
+      (n, f ∙ ap₂ _++_ (is-linear ss) (ap (λ (j : ℕ). drop j room) n))

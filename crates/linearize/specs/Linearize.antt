@@ -15,11 +15,15 @@ use Rattle.post_linearize.specs.PostLinearize.{postLinearize}
 unfoldable pub linearOrder : List ℤ → List ℕ → List ℕ → List ℕ
 linearOrder fs ss ps = outputOrder fs ss (isAncestor ps) (postLinearize fs ss ps (ancestorOrder fs ss (isAncestor ps) (isDescendant ps)))
 
+-- the one that needs the graph
+abbrev pub lastRefusals : List ℕ → List Line
+lastRefusals ps = line 4 (isCyclic ps) ∷ []
+
 -- "Orders: clusters 1, 2, 11, 3, 4, 5", of which 5 is for a given order
 unfoldable pub refusals : List ℤ → List ℕ → List ℕ → List ℕ → List Line
 refusals fs ss ps room =
     line 1 (differ₃ (length fs) (length ss) (length ps)) ∷ line 2 (tooMany (length fs)) ∷ line 11 (short (length room) (length fs))
-    ∷ line 3 (anyOutside fs) ∷ line 4 (isCyclic ps) ∷ []
+    ∷ line 3 (anyOutside fs) ∷ lastRefusals ps
 
 unfoldable pub reply : List ℤ → List ℕ → List ℕ → List ℕ → Reply
 reply fs ss ps room = replyOf refusal (refusals fs ss ps room) (success (length (linearOrder fs ss ps)))

@@ -14,11 +14,14 @@ use Rattle.refusals.specs.Refusals.{Line, line, refusal, success, replyOf, kept
 unfoldable pub postLinearize : List ℤ → List ℕ → List ℕ → List ℕ → List ℕ
 postLinearize fs ss ps order = forwardPass fs ss (isAncestor ps) (backPass fs ss (isDescendant ps) order)
 
+-- those that need the graph or read the order
+abbrev pub lastRefusals : List ℤ → List ℕ → List ℕ → List Line
+lastRefusals fs ps order = line 4 (isCyclic ps) ∷ line 5 (not (isOrder (length fs) order)) ∷ []
+
 -- "Orders: clusters 1, 2, 11, 3, 4, 5"; "its length must be n, else 5, and 11 is not for it"
 unfoldable pub refusals : List ℤ → List ℕ → List ℕ → List ℕ → List Line
 refusals fs ss ps order =
-    line 1 (differ₃ (length fs) (length ss) (length ps)) ∷ line 2 (tooMany (length fs)) ∷ line 3 (anyOutside fs) ∷ line 4 (isCyclic ps)
-    ∷ line 5 (not (isOrder (length fs) order)) ∷ []
+    line 1 (differ₃ (length fs) (length ss) (length ps)) ∷ line 2 (tooMany (length fs)) ∷ line 3 (anyOutside fs) ∷ lastRefusals fs ps order
 
 -- "Success reports how many places it wrote": the n positions
 unfoldable pub reply : List ℤ → List ℕ → List ℕ → List ℕ → Reply

@@ -29,11 +29,12 @@ loop-again c =
     let at-up = test .before .before in
     let turn = at-up .before .before in
     let head = turn .before in
-    let below : head .loop .i < positions = omega (arith, turn .loop-test .taken, head .before .before .before .pre) in (
+    let below : head .loop .i < positions = omega (arith, turn .loop-test .taken, head .before .before .before .pre .few) in (
       search needs,
       own-turn
           (head .loop .i)
-          below
+          (turn .loop-test .taken)
+          (head .before .before .before .pre)
           (at-up .at .ensures)
           (⊎-elim
           (λ w. rw (← test .before .contains .ensures, w .0 .taken, w .1) (sym (or-true (head .loop .cyclic))))

@@ -1,18 +1,18 @@
-use mathlib.Core.Path.{sym, _∙_}
+use mathlib.Core.Path.{_∙_}
 use Prim.Native.Nat.{_≤_, _-_}
 use native.Mathlib.Omega.{arith}
 use lib.ListN.{take}
 use lib.Seq.{length-take-le}
 use borrow.Author.Needs.{needs}
 use Rattle.depgraph.specs.Graph.{isParent}
-use Rattle.depgraph.specs.Steps.{Holds}
-use Rattle.depgraph.proofs.Closure.{upTo, link-start, link-turn, link-done, own-parents}
+use Rattle.depgraph.proofs.Parents.{among}
+use Rattle.depgraph.proofs.Closure.{Linking, link-start, link-turn, link-done, own-parents}
 use Rattle.depgraph.proofs.link.Statement.{statement}
 use Rattle.depgraph.proofs.link.Tie as tie
 
 abbrev Inv-loop : tie.InvT-loop
 Inv-loop parents n ancestors₀ descendants₀ all i₀ ancestors descendants i =
-    (i ≤ n) × Holds (upTo i (isParent (take n parents))) ancestors descendants
+    (i ≤ n) × Linking (isParent (take n parents)) ancestors₀ descendants₀ ancestors descendants i
 
 abbrev μ-loop : tie.MeasureT-loop
 μ-loop parents n ancestors₀ descendants₀ all i₀ ancestors descendants i = n - i
@@ -36,7 +36,9 @@ loop-again c =
           (head .loop .i)
           (own .remove .result)
           (join .before .before .singleton .result)
-          (omega (arith, turn .loop-test .taken, start .pre .1 .0))
+          (turn .loop-test .taken)
+          (start .pre .1 .0)
+          (λ a e. omega (arith, among (take n parents) .to (head .loop .i) a e, length-take-le n parents (start .pre .0)))
           (own-parents
           parents
           n
@@ -55,12 +57,6 @@ loop-again c =
           (join .join .ensures)
           (head .loop .inv .1),
     )
-
-same-length : tie.Need-same-length Inv-loop μ-loop
-same-length c = c .before .loop .inv .1 .ups ∙ sym (c .before .before .before .before .before .before .pre .1 .1 .ups)
-
-same-length-2 : tie.Need-same-length-2 Inv-loop μ-loop
-same-length-2 c = c .before .loop .inv .1 .downs ∙ sym (c .before .before .before .before .before .before .pre .1 .1 .downs)
 
 returns : tie.Need-returns Inv-loop μ-loop
 returns c =
@@ -86,6 +82,6 @@ link-spec =
     (λ c. search needs)
     (λ c. search needs)
     loop-again
-    same-length
-    same-length-2
+    (λ c. c .before .loop .inv .1 .ups)
+    (λ c. c .before .loop .inv .1 .downs)
     returns)

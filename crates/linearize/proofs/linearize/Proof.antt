@@ -2,18 +2,15 @@ use Prim.Native.Nat.{ℕ, _≤_}
 use native.Mathlib.Omega.{arith}
 use mathlib.Core.Path.{_≡_, refl, sym, ap, _∙_}
 use mathlib.Core.List.{List}
-use lib.ListN.{length, take, replicate}
-use lib.Seq.{length-take-le}
+use lib.ListN.{length}
 use borrow.Author.Needs.{needs}
 use borrow.Author.Tests.{lt-ltb, le-ltb}
 use Rattle.txset.specs.Sets.{positions}
-use Rattle.depgraph.specs.Closed.{Closed}
 use Rattle.refusals.specs.Refusals.{Line, success}
 use Rattle.refusals.proofs.Laws.{outside-some, outside-none}
 use Rattle.refusals.proofs.Lines.{Past, Takes, none-past, past, stop, all-past, refuses-keeps, succeeds-writes}
-use Rattle.post_linearize.proofs.Checks.{sizes-differ, parents-differ, all-alike, whole}
+use Rattle.post_linearize.proofs.Checks.{sizes-differ, parents-differ, all-alike, others}
 use Rattle.linearize.specs.Linearize.{refusals, reply, roomAfter}
-use Rattle.linearize.proofs.Order.{ready, linear-done}
 use Rattle.linearize.proofs.Few.{few-acyclic, none-order, alone-order, none-room, alone-room}
 use Rattle.linearize.proofs.linearize.Statement.{statement}
 use Rattle.linearize.proofs.linearize.Tie as tie
@@ -102,45 +99,15 @@ returns-7 c =
     succeeds-writes _ _ _ _ (takes e (omega (arith, t .if7 .taken))) (c .wrote2 .ensures ∙ ap (λ (l : List ℕ). success (length l)) (sym o))
     (alone-room _ _ o (omega (arith, wide e, t .if7 .taken)))
 
--- once the graph is made
-graph : (d : tie.After-new) → Closed (start (d .before .before .before) .args .parents .now) (d .new .result)
+order-cluster-requires : tie.Need-order-cluster-requires
 unfolding start
-graph d = whole _ _ (let e = d .before .before .before in omega (arith, as-long e, few e)) (d .new .ensures)
+order-cluster-requires c κs = let e = c .before .before .before in record { same = as-long e; few = few e; wide = wide e }
 
 returns-8 : tie.Need-returns-8
 unfolding reply roomAfter refusals start
 returns-8 c =
-    let d = c .before .before in
-    refuses-keeps _ _ _ _ (stop (past-4 (d .before .before .before)) (sym (graph d .cyclic) ∙ c .before .if8 .taken)) (c .refused6 .ensures)
-
-abbrev zeros : List ℕ
-zeros = replicate positions 0
-
--- the list that takes the order is as long as the members are many
-own-length : (e : tie.Else5) → length (take (length (start e .args .fees .now)) zeros) ≡ length (start e .args .fees .now)
-own-length e = length-take-le _ zeros (few e)
-
-slice-aggregate : tie.Need-slice-aggregate-order-members
-unfolding start
-slice-aggregate c = sym (own-length (c .before .before .before .before .before .before .before .before .before .before))
-
-order-members-requires : tie.Need-order-members-requires
-unfolding start
-order-members-requires c κs =
-    let d = c .before .before .before .before .before .before .before .before in
-    let e = d .before .before .before in
-    ready (graph d) (as-long e) (few e) (own-length e) (wide e)
-
-returns-9 : tie.Need-returns-9
-unfolding reply roomAfter refusals start
-returns-9 c =
-    let m = c .before .before .before .before in
-    let x = m .before .before .before .before .before .before .before .before in
-    let d = x .before in
-    let l = linear-done _ _ _ _ _ (graph d) (m .order-members .ensures .0) (m .order-members .ensures .1) in
-    succeeds-writes _ _ _ _ (all-past (past (past-4 (d .before .before .before)) (sym (graph d .cyclic) ∙ x .if8 .left)) refl)
-    (c .wrote3 .ensures ∙ ap success (l .0))
-    (l .1)
+    let o = c .before .before in
+    others (past-4 (o .before .before .before .before)) _ _ _ _ (o .order-cluster .ensures .0) (o .order-cluster .ensures .1)
 
 pub linearize-spec : {M : Type 1} → statement M
 linearize-spec =
@@ -163,12 +130,6 @@ linearize-spec =
     (λ c κs. search needs)
     (λ c. search needs)
     returns-7
-    (λ c κs. search needs)
-    (λ c κs. search needs)
-    returns-8
+    order-cluster-requires
     (λ c. search needs)
-    slice-aggregate
-    order-members-requires
-    (λ c κs. search needs)
-    (λ c. search needs)
-    returns-9)
+    returns-8)

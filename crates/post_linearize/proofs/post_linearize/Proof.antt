@@ -1,19 +1,14 @@
 use native.Mathlib.Omega.{arith}
-use mathlib.Core.Path.{_≡_, refl, sym, ap, _∙_}
-use mathlib.Core.Bool.{not}
+use mathlib.Core.Path.{refl}
 use mathlib.Core.List.{List}
-use lib.ListN.{length}
 use borrow.Author.Needs.{needs}
-use borrow.Author.Tests.{lt-ltb, le-ltb, not-true, not-false}
+use borrow.Author.Tests.{lt-ltb, le-ltb}
 use Rattle.txset.specs.Sets.{positions}
-use Rattle.depgraph.specs.Closed.{Closed}
-use Rattle.refusals.specs.Refusals.{Line, isOrder}
+use Rattle.refusals.specs.Refusals.{Line}
 use Rattle.refusals.proofs.Laws.{outside-some, outside-none}
-use Rattle.refusals.proofs.Lines.{Past, none-past, past, stop, all-past, refuses-keeps, succeeds-writes}
-use Rattle.refusals.proofs.Orders.{order-length, small-order}
+use Rattle.refusals.proofs.Lines.{Past, none-past, past, stop, refuses-keeps}
 use Rattle.post_linearize.specs.PostLinearize.{refusals, reply, orderAfter}
-use Rattle.post_linearize.proofs.Checks.{sizes-differ, parents-differ, all-alike, whole, ancestors-are, descendants-are}
-use Rattle.post_linearize.proofs.Post.{passes}
+use Rattle.post_linearize.proofs.Checks.{sizes-differ, parents-differ, all-alike, others, new-room}
 use Rattle.post_linearize.proofs.post_linearize.Statement.{statement}
 use Rattle.post_linearize.proofs.post_linearize.Tie as tie
 
@@ -37,14 +32,6 @@ past-3 : (e : tie.Else4) → Past (lines (e .before .before .before .before .bef
 unfolding refusals
 past-3 e = past (past-2 (e .before .before)) (outside-none _ (omega (arith, e .before .first-outside .ensures, e .if4 .left)))
 
--- the graph is that of the parents
-graph : (d : tie.After-new) → Closed (d .before .before .before .before .before .before .before .before .before .args .parents .now) (d .new .result)
-graph d = whole _ _ (omega (arith, d .before .before .before .before .if2 .left, d .before .before .before .if3 .left)) (d .new .ensures)
-
-past-4 : (e : tie.Else5) → Past (lines (e .before .before .before .before .before .before .before)) 4
-unfolding refusals
-past-4 e = past (past-3 (e .before .before)) (sym (graph (e .before) .cyclic) ∙ e .if5 .left)
-
 returns : tie.Need-returns
 unfolding reply orderAfter refusals
 returns c = refuses-keeps _ _ _ _ (stop (past-0 (c .before .before)) (sizes-differ _ _ _ (c .before .if1 .taken))) (c .refused .ensures)
@@ -63,34 +50,29 @@ returns-4 c =
     let o = c .before .before in
     refuses-keeps _ _ _ _ (stop (past-2 (o .before)) (outside-some _ (omega (arith, o .first-outside .ensures)))) (c .refused4 .ensures)
 
+improve-requires : tie.Need-improve-requires
+improve-requires c κs =
+    let t = c .before .before .before in
+    let same = t .before .before .before .before .if2 .left in
+    (same, new-room 8 (omega (arith, same, t .if5 .taken)) (omega (arith, same, t .if5 .taken)))
+
+improve-requires-2 : tie.Need-improve-requires-2
+improve-requires-2 c κs =
+    let e = c .before .before .before .before in
+    let same = e .before .before .before .if2 .left in
+    (same, new-room 64 (omega (arith, same, e .before .before .if3 .left)) (omega (arith, same, e .before .before .if3 .left)))
+
 returns-5 : tie.Need-returns-5
 unfolding reply orderAfter refusals
 returns-5 c =
-    let d = c .before .before in
-    refuses-keeps _ _ _ _ (stop (past-3 (d .before)) (sym (graph d .cyclic) ∙ c .before .if5 .taken)) (c .refused5 .ensures)
-
--- what the test of the order says, for at most 64 members
-tested : (o : tie.After-is-order) → let a = o .before .before .before .before .before .before .before .before .before .before .before .before .args in o .is-order .result ≡ isOrder (length (a .fees .now)) (a .order .now)
-tested o = o .is-order .ensures ∙ small-order _ _ (o .before .before .before .before .before .before .if3 .left)
+    let i = c .before .before .before .before in
+    others (past-3 (i .before .before .before .before .before)) _ _ _ _ (i .improve .ensures .0) (i .improve .ensures .1)
 
 returns-6 : tie.Need-returns-6
 unfolding reply orderAfter refusals
 returns-6 c =
-    let o = c .before .before in
-    refuses-keeps _ _ _ _ (stop (past-4 (o .before .before)) (ap not (sym (tested o) ∙ not-true _ (c .before .if6 .taken)))) (c .refused6 .ensures)
-
-returns-7 : tie.Need-returns-7
-unfolding reply orderAfter refusals
-returns-7 c =
-    let f = c .before .before .before in
-    let b = f .before .before .before .before .before in
-    let x = b .before .before .before .before .before in
-    let o = x .before in
-    let d = o .before .before .before in
-    let is = sym (tested o) ∙ not-false _ (x .if6 .left) in
-    succeeds-writes _ _ _ _ (all-past (past (past-4 (o .before .before)) (ap not is)) refl)
-    (c .wrote .ensures)
-    (passes _ _ _ _ _ _ (omega (arith, d .before .before .before .if3 .left, order-length _ _ is)) (ancestors-are (graph d)) (descendants-are (graph d)) _ _ (b .back-pass .ensures) (f .forward-pass .ensures))
+    let i = c .before .before .before .before in
+    others (past-3 (i .before .before .before .before .before)) _ _ _ _ (i .improve2 .ensures .0) (i .improve2 .ensures .1)
 
 pub post-linearize-spec : {M : Type 1} → statement M
 post-linearize-spec =
@@ -105,17 +87,13 @@ post-linearize-spec =
     (λ c κs. search needs)
     (λ c κs. search needs)
     returns-4
-    (λ c κs. search needs)
-    (λ c κs. search needs)
+    (λ c. search needs)
+    (λ c. search needs)
+    improve-requires
+    (λ c. search needs)
     returns-5
-    (λ c κs. search needs)
-    (λ c κs. search needs)
     (λ c. search needs)
-    returns-6
     (λ c. search needs)
-    (λ c κs. search needs)
+    improve-requires-2
     (λ c. search needs)
-    (λ c κs. search needs)
-    (λ c κs. search needs)
-    (λ c. search needs)
-    returns-7)
+    returns-6)
