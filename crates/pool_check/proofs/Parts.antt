@@ -1,29 +1,47 @@
 -- The tests of the parts of refusal 12, and the whole that they say together. Assumes nothing.
-use mathlib.Core.Path.{_≡_, refl, sym, ap₂}
+use mathlib.Core.Path.{_≡_, refl, sym}
 use mathlib.Core.Bool.{Bool, true, false, _&&_}
 use mathlib.Core.List.{List, [], _∷_}
 use Prim.Native.Nat.{ℕ}
 use native.Mathlib.Omega.{arith}
 use lib.ListN.{length}
-use Rattle.lists.proofs.Bools.{and-both, asked, clash}
+use Rattle.lists.proofs.Bools.{and-both, asked, clash, true-together}
 use Rattle.lists.proofs.Lists.{Each}
-use Rattle.pool_table.specs.Pool.{slotCount}
+use Rattle.pool_table.specs.Pool.{Pool, slotCount}
 use Rattle.pool_table.specs.Words.{isLegal, poolOf}
 use Rattle.pool_table.specs.Ranges.{limitsInRange}
 use Rattle.pool_table.proofs.Legal.{few-slots}
-use Rattle.pool_rules.proofs.Sound.{Sound, well-legal, well-sound}
+use Rattle.pool_rules.proofs.Sound.{well-legal, well-sound}
 use Rattle.pool_order.specs.Order.{roomy, canStand, standsIn}
 use Rattle.pool_order.proofs.Slots.{roomy-all}
 use Rattle.pool_table.specs.WellFormed.{numbersInRange, txidsDistinct, totalIsSum, freeZeroed, linksMutual, acyclic, clustersWithin, sound, wellFormed}
-
-well : (t : List ℕ) → isLegal (length t) ≡ true → Sound (poolOf t) → wellFormed t ≡ true
-unfolding wellFormed sound
-well t e f = rw (e, f .limits, f .numbers, f .distinct, f .total, f .zeroed, f .links, f .acyclic, f .within)
+use Rattle.pool_check.specs.Linked.{soundLinks, linkedIn, Linked}
 
 -- what a part's test says where it fails
 fails : (a b : Bool) → (b ≡ true → a ≡ true) → a ≡ false → false ≡ b
 fails a false h e = refl
 fails a true h e = clash (h refl) e
+
+-- the parts of `soundLinks`
+record Parts (p : Pool) : Type 0 where
+  limits : limitsInRange (p .limits) ≡ true
+  numbers : numbersInRange p ≡ true
+  distinct : txidsDistinct p ≡ true
+  total : totalIsSum p ≡ true
+  zeroed : freeZeroed p ≡ true
+  links : linksMutual p ≡ true
+  acyclic : acyclic p ≡ true
+
+parts : (p : Pool) → soundLinks p ≡ true → Parts p
+unfolding soundLinks
+parts p h =
+    let a = and-both (limitsInRange (p .limits)) _ h in
+    let b = and-both (numbersInRange p) _ (a .1) in
+    let c = and-both (txidsDistinct p) _ (b .1) in
+    let d = and-both (totalIsSum p) _ (c .1) in
+    let e = and-both (freeZeroed p) _ (d .1) in
+    let f = and-both (linksMutual p) (acyclic p) (e .1) in
+    record { limits = a .0; numbers = b .0; distinct = c .0; total = d .0; zeroed = e .0; links = f .0; acyclic = f .1 }
 
 module _ (t : List ℕ) where
   abbrev rows : Bool
@@ -36,38 +54,51 @@ module _ (t : List ℕ) where
   groups = isLegal (length t) && (limitsInRange (poolOf t .limits) && clustersWithin (poolOf t))
 
   module _ (rooms : List ℕ) where
-    -- what stands is well-formed
-    formed : standsIn t rooms ≡ true → (roomy (slotCount (poolOf t)) rooms ≡ true) × (wellFormed t ≡ true)
-    unfolding standsIn
-    formed h = and-both (roomy (slotCount (poolOf t)) rooms) (wellFormed t) h
+    apart : linkedIn t rooms ≡ true → (roomy (slotCount (poolOf t)) rooms ≡ true) × (isLegal (length t) ≡ true) × Parts (poolOf t)
+    unfolding linkedIn
+    apart h =
+        let a = and-both (roomy (slotCount (poolOf t)) rooms) _ h in
+        let b = and-both (isLegal (length t)) (soundLinks (poolOf t)) (a .1) in
+        (a .0, b .0, parts (poolOf t) (b .1))
 
-    pub no-rows : rows ≡ false → false ≡ standsIn t rooms
-    no-rows = fails rows (standsIn t rooms) (λ h.
-        let w = formed h .1 in
-        let f = well-sound t w in
-        rw (well-legal t w, f .numbers, f .total, f .zeroed))
+    pub linked-both : linkedIn t rooms ≡ true → (roomy (slotCount (poolOf t)) rooms ≡ true) × Linked t
+    linked-both h = let u = apart h in (u .0, record { legal = u .1; limits = u .2 .limits; links = u .2 .links })
 
-    pub no-txids : canStand t rooms ≡ false → false ≡ standsIn t rooms
+    -- a table stands where its clusters are within the limits besides
+    pub stands-linked : standsIn t rooms ≡ (linkedIn t rooms && clustersWithin (poolOf t))
+    unfolding standsIn wellFormed sound linkedIn soundLinks
+    stands-linked =
+        true-together (standsIn t rooms) (linkedIn t rooms && clustersWithin (poolOf t))
+        (λ e.
+        let u = and-both (roomy (slotCount (poolOf t)) rooms) (wellFormed t) e in
+        let f = well-sound t (u .1) in
+        rw (u .0, well-legal t (u .1), f .limits, f .numbers, f .distinct, f .total, f .zeroed, f .links, f .acyclic, f .within))
+        (λ e.
+        let u = and-both (linkedIn t rooms) (clustersWithin (poolOf t)) e in
+        let v = apart (u .0) in
+        let f = v .2 in
+        rw (v .0, v .1, f .limits, f .numbers, f .distinct, f .total, f .zeroed, f .links, f .acyclic, u .1))
+
+    -- ---- a part that fails
+
+    pub no-limits : limitsInRange (poolOf t .limits) ≡ false → false ≡ linkedIn t rooms
+    no-limits = fails (limitsInRange (poolOf t .limits)) (linkedIn t rooms) (λ h. apart h .2 .limits)
+
+    pub no-rows : rows ≡ false → false ≡ linkedIn t rooms
+    no-rows = fails rows (linkedIn t rooms) (λ h. let u = apart h in rw (u .1, u .2 .numbers, u .2 .total, u .2 .zeroed))
+
+    pub no-txids : canStand t rooms ≡ false → false ≡ linkedIn t rooms
     unfolding canStand
-    no-txids = fails (canStand t rooms) (standsIn t rooms) (λ h.
-        let w = formed h .1 in
-        rw (formed h .0, well-legal t w, well-sound t w .distinct))
+    no-txids = fails (canStand t rooms) (linkedIn t rooms) (λ h. let u = apart h in rw (u .0, u .1, u .2 .distinct))
 
-    pub no-links : links ≡ false → false ≡ standsIn t rooms
-    no-links = fails links (standsIn t rooms) (λ h.
-        let w = formed h .1 in
-        let f = well-sound t w in
-        rw (well-legal t w, f .links, f .acyclic))
+    pub no-links : links ≡ false → false ≡ linkedIn t rooms
+    no-links = fails links (linkedIn t rooms) (λ h. let u = apart h in rw (u .1, u .2 .links, u .2 .acyclic))
 
-    pub no-groups : groups ≡ false → false ≡ standsIn t rooms
-    no-groups = fails groups (standsIn t rooms) (λ h.
-        let w = formed h .1 in
-        let f = well-sound t w in
-        rw (well-legal t w, f .limits, f .within))
+    -- ---- none fails
 
-    pub all-stand : rows ≡ true → canStand t rooms ≡ true → links ≡ true → groups ≡ true → true ≡ standsIn t rooms
-    unfolding canStand standsIn
-    all-stand r x l h =
+    pub all-linked : limitsInRange (poolOf t .limits) ≡ true → rows ≡ true → canStand t rooms ≡ true → links ≡ true → true ≡ linkedIn t rooms
+    unfolding canStand linkedIn soundLinks
+    all-linked s r x l =
         let a = and-both (isLegal (length t)) _ r in
         let b = and-both (numbersInRange (poolOf t)) _ (a .1) in
         let c = and-both (totalIsSum (poolOf t)) (freeZeroed (poolOf t)) (b .1) in
@@ -75,12 +106,11 @@ module _ (t : List ℕ) where
         let d = and-both (isLegal (length t)) (txidsDistinct (poolOf t)) (o .1) in
         let e = and-both (isLegal (length t)) _ l in
         let g = and-both (linksMutual (poolOf t)) (acyclic (poolOf t)) (e .1) in
-        let k = and-both (isLegal (length t)) _ h in
-        let m = and-both (limitsInRange (poolOf t .limits)) (clustersWithin (poolOf t)) (k .1) in
-        let w =
-        well t (a .0)
-        (record { limits = m .0; numbers = b .0; distinct = d .1; total = c .0; zeroed = c .1; links = g .0; acyclic = g .1; within = m .1 }) in
-        sym (ap₂ _&&_ (o .0) w)
+        sym (rw (o .0, a .0, s, b .0, d .1, c .0, c .1, g .0, g .1))
+
+  -- the clusters of a table that is linked
+  pub groups-are : Linked t → groups ≡ clustersWithin (poolOf t)
+  groups-are h = rw (h .legal, h .limits)
 
   -- rooms for as many slots as a table can have
   pub always-wide : standsIn t (1025 ∷ 1025 ∷ []) ≡ wellFormed t

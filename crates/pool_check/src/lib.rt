@@ -6,29 +6,36 @@ ghost use mathlib.Core.List.{[], _∷_};
 ghost use lib.ListN.{length};
 ghost use Rattle.pool_table.specs.Words.{poolOf};
 ghost use Rattle.pool_table.specs.WellFormed.{wellFormed};
-ghost use Rattle.pool_order.specs.Order.{standsIn};
 ghost use Rattle.pool_order.specs.Packed.{Standing};
+ghost use Rattle.pool_check.specs.Linked.{linkedIn};
 use pool_order::ByTxid;
+use pool_table::Limits;
 
-// Whether every part of refusal 12 holds.
+// Whether every part of refusal 12 holds. The dearest test comes last.
 pub fn is_well_formed(table: &[u64]) -> bool
     ensures { λ r. ⌜ r ≡ wellFormed (now (table .entry)) ⌝ }
 {
     let mut keys = [0u64; 1025];
     let mut spare = [0u64; 1025];
-    sort_well_formed(table, &mut keys, &mut spare).stands
+    if !sort_linked(table, &mut keys, &mut spare).stands {
+        return false;
+    }
+    pool_clusters::clusters_stand(table) // a cluster above its limits
 }
 
-// The same, with the slots by txid at the start of `keys`, where both rooms have more places than the table has slots. The dearer tests
-// come last.
-pub fn sort_well_formed(table: &[u64], keys: &mut [u64], spare: &mut [u64]) -> ByTxid
-    ensures { λ r. ⌜ r .stands ≡ standsIn (now (table .entry)) (length (now (keys .entry)) ∷ length (now (spare .entry)) ∷ []) ⌝ }
+// Whether every part holds but for the limits of the clusters, and the slots by txid at the start of `keys`, where both rooms have more places
+// than the table has slots.
+pub fn sort_linked(table: &[u64], keys: &mut [u64], spare: &mut [u64]) -> ByTxid
+    ensures { λ r. ⌜ r .stands ≡ linkedIn (now (table .entry)) (length (now (keys .entry)) ∷ length (now (spare .entry)) ∷ []) ⌝ }
     ensures { λ r. ⌜ (r .stands ≡ true → Standing (poolOf (now (table .entry))) (r .count) (now (keys .entry)) (now (keys .exit))) ⌝ }
 {
     let none = ByTxid {
         stands: false,
         count: 0,
     };
+    if !Limits::of(table).in_range() {
+        return none;
+    }
     if !pool_scan::rows_stand(table) {
         return none; // a number, the total or a free slot
     }
@@ -38,9 +45,6 @@ pub fn sort_well_formed(table: &[u64], keys: &mut [u64], spare: &mut [u64]) -> B
     }
     if !pool_links::links_stand(table) {
         return none; // a link or a chain of parents
-    }
-    if !pool_clusters::clusters_stand(table) {
-        return none; // a cluster above its limits
     }
     slots
 }

@@ -125,7 +125,7 @@ module _ (p : Pool) (few : slotCount p ≤ capacity) (sound : Sound p) {ms : Lis
   cluster-taken s m = member-parts p (c .lead) s (rw (c .are) at m) .0
 
   pub cluster-members : (s : ℕ) → elem s ms ≡ true → membersOf p s ≡ ms
-  cluster-members s m = members-same p few sound (c .lead) s (member-parts p (c .lead) s (rw (c .are) at m) .1) ∙ sym (c .are)
+  cluster-members s m = members-same p few (sound .links) (c .lead) s (member-parts p (c .lead) s (rw (c .are) at m) .1) ∙ sym (c .are)
 
   pub cluster-acyclic : isCyclic (map (parentsOf p ms) ms) ≡ false
   cluster-acyclic = rw (c .are) (position-acyclic p few sound (c .lead) (c .taken))

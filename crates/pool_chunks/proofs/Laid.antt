@@ -127,11 +127,11 @@ module _ {p : Pool} {ds : List ℤ} (h : Taken p ds) where
   entries-few = omega (arith, count-le (occupied p) (slotCount p) 0)
 
   pub clusters-fit : length (clusters p) ≤ slotCount p
-  clusters-fit = omega (arith, clusters-few p (h .few) (h .sound), entries-few)
+  clusters-fit = omega (arith, clusters-few p (h .few) (h .sound .links), entries-few)
 
   module _ {members bounds : List ℕ} (rows : Rows members bounds (clusters p)) where
     pub bound-fit : (k : ℕ) → k ≤ length (clusters p) → getD bounds k 0 ≤ slotCount p
-    bound-fit k l = omega (arith, start-within rows k l, rows-end rows, clusters-members p (h .few) (h .sound), entries-few)
+    bound-fit k l = omega (arith, start-within rows k l, rows-end rows, clusters-members p (h .few) (h .sound .links), entries-few)
 
     -- the members of the c-th
     module _ (c : ℕ) (l : c < length (clusters p)) where
@@ -145,7 +145,7 @@ module _ {p : Pool} {ds : List ℤ} (h : Taken p ds) where
       next-bound = rw (add-one c) (rows .next c l) ∙ ap (λ (ms : List ℕ). getD bounds c 0 + length ms) (sym lent-is)
 
       pub lent-cluster : Cluster p lent
-      lent-cluster = rw lent-is (each-at (Cluster p) (clusters p) [] (clusters-each p (h .few) (h .sound)) c l)
+      lent-cluster = rw lent-is (each-at (Cluster p) (clusters p) [] (clusters-each p (h .few) (h .sound .links)) c l)
 
       pub lent-cuttable : {ups : List ℕ} → ((s : ℕ) → occupied p s ≡ true → getD ups s 0 ≡ parentsOf p (membersOf p s) s)
           → slotCount p < length ups → Cuttable p ds lent ups (getD bounds c 0)

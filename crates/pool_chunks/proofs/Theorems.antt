@@ -87,7 +87,7 @@ module _ (p : Pool) (few : slotCount p ≤ capacity) (sound : Sound p) (ds : Lis
 
   pub chunks-proper : Each (Proper p) (allChunks p ds)
   unfolding allChunks
-  chunks-proper = over-proper (clusters p) (clusters-each p few sound)
+  chunks-proper = over-proper (clusters p) (clusters-each p few (sound .links))
 
   -- so in the order in which they are tried
   pub tried-proper : Each (Proper p) (tried p ds)
@@ -126,9 +126,9 @@ module _ (p : Pool) (few : slotCount p ≤ capacity) (sound : Sound p) (ds : Lis
   -- the slots of all chunks are the occupied ones
   pub chunks-elem : (s : ℕ) → elem s (flatten (slotLists (allChunks p ds))) ≡ occupied p s
   unfolding allChunks
-  chunks-elem s = over-elem (clusters p) (clusters-each p few sound) s ∙ clusters-elem p few sound s
+  chunks-elem s = over-elem (clusters p) (clusters-each p few (sound .links)) s ∙ clusters-elem p few (sound .links) s
 
   -- each once
   pub chunks-once : distinct (flatten (slotLists (allChunks p ds))) ≡ true
   unfolding allChunks
-  chunks-once = over-once (clusters p) (clusters-each p few sound) (clusters-once p few sound)
+  chunks-once = over-once (clusters p) (clusters-each p few (sound .links)) (clusters-once p few (sound .links))

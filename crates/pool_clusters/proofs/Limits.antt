@@ -40,11 +40,13 @@ module _ (p : Pool) (f g : ℕ → Bool) (same : (i : ℕ) → f i ≡ g i) wher
   unfolding countOf
   count-same = count-ext f g (slotCount p) 0 (λ i a b. same i)
 
+  weight-same : weightOf p f ≡ weightOf p g
+  unfolding weightOf
+  weight-same = sum-ext (weightAt p) f g (slotCount p) 0 (λ i a b. same i)
+
   union-same : unionOf p f ≡ unionOf p g
-  unfolding unionOf weightOf
-  union-same =
-      ap₂ {C = Union} (λ (c w : ℕ). record { count = c; weight = record { 0 = min w most } }) count-same
-      (sum-ext (weightAt p) f g (slotCount p) 0 (λ i a b. same i))
+  unfolding unionOf
+  union-same = ap₂ {C = Union} (λ (c w : ℕ). record { count = c; weight = record { 0 = min w most } }) count-same weight-same
 
   pub gathered-same : {limit : ℕ} {part : Part} → Gathered p f limit part → Gathered p g limit part
   gathered-same {limit} h =
@@ -57,6 +59,20 @@ module _ (p : Pool) (f g : ℕ → Bool) (same : (i : ℕ) → f i ≡ g i) wher
 -- the clusters of one slot are its cluster
 pub of-one : (p : Pool) (f : ℕ → Bool) (a : ℕ) → a < slotCount p → ((i : ℕ) → f i ≡ eqb i a) → (b : ℕ) → inClusters p f b ≡ inCluster p a b
 of-one p f a l one b = clusters-reached p f b ∙ reached-one (isLinked p) (slotCount p) f a l one b ∙ sym (cluster-onward p a b)
+
+-- ---- limits in their ranges
+
+-- the size limit is so small that four times it stays far below 2^64
+pub size-small : (l : Limits) → limitsInRange l ≡ true → l .size ≤ 101000
+unfolding limitsInRange
+size-small l h =
+    leb-true (l .size) 101000
+    (and-both (leb 1 (l .size)) (leb (l .size) 101000) (and-both (leb 1 (l .count) && leb (l .count) 64) (leb 1 (l .size) && leb (l .size) 101000) h .1) .1)
+
+count-some : (l : Limits) → limitsInRange l ≡ true → 0 < l .count
+unfolding limitsInRange
+count-some l h =
+    leb-true 1 (l .count) (and-left (leb 1 (l .count)) (leb (l .count) 64) (and-left (leb 1 (l .count) && leb (l .count) 64) (leb 1 (l .size) && leb (l .size) 101000) h))
 
 -- ---- a slot without links
 
@@ -81,33 +97,23 @@ module _ (p : Pool) (a : ℕ) (l : a < slotCount p) where
       sum-without (weightAt p) (λ i. eqb i a) (λ i. false) (slotCount p) 0 a (omega arith) (omega arith) (eq-eqb a a refl) (λ j x y. without j) in
       omega (arith, sum-none (weightAt p) (λ i. false) (slotCount p) 0 (λ i. refl))
 
-  pub lone : ((j : ℕ) → isLinked p a j ≡ false) → (limit : ℕ) (found : List ℕ) (w : RawWeight) → ((i : ℕ) → hasIn found i ≡ eqb i a)
-      → w .0 ≡ weightAt p a → w .0 ≤ most
-      → Gathered p (inCluster p a) limit (record { found = found; union = record { count = 1; weight = w }; whole = ltb 0 limit })
-  unfolding unionOf
-  lone none limit found w one e m =
-      gathered-same p (λ i. eqb i a) (inCluster p a) (λ i. flip i a ∙ sym (cluster-onward p a i ∙ onward-lone (isLinked p) (slotCount p) a none i))
-      (record {
-        whole = ap (λ (n : ℕ). leb n limit) (sym count-one);
-        found = λ h i. one i;
-        union = λ h.
-            ap₂ {C = Union} (λ (c n : ℕ). record { count = c; weight = record { 0 = n } }) (sym count-one)
-            (let k : min (weightOf p (λ i. eqb i a)) most ≡ w .0 = omega (arith, weight-one) in sym k);
-      })
+  -- it is a cluster by itself
+  pub lone-cluster : hasLinks (slotAt p a) ≡ false → (i : ℕ) → inCluster p a i ≡ eqb i a
+  lone-cluster h i = cluster-onward p a i ∙ onward-lone (isLinked p) (slotCount p) a (linked-none p a h) i ∙ sym (flip i a)
+
+  -- of one member, with its own weight
+  pub lone-within : hasLinks (slotAt p a) ≡ false → limitsInRange (p .limits) ≡ true
+      → isWithin p (inCluster p a) ≡ leb (virtualSize (weightAt p a)) (p .limits .size)
+  unfolding isWithin
+  lone-within h r =
+      let same = lone-cluster h in
+      let heavy : ℕ → Bool = λ w. leb (virtualSize w) (p .limits .size) in
+      ap₂ (λ (c w : ℕ). leb c (p .limits .count) && heavy w)
+      (count-same p (inCluster p a) (λ i. eqb i a) same ∙ count-one)
+      (weight-same p (inCluster p a) (λ i. eqb i a) same ∙ weight-one)
+      ∙ ap (λ (b : Bool). b && heavy (weightAt p a)) (le-leb 1 (p .limits .count) (count-some (p .limits) r))
 
 -- ---- within the limits
-
--- the size limit is so small that four times it stays far below 2^64
-pub size-small : (l : Limits) → limitsInRange l ≡ true → l .size ≤ 101000
-unfolding limitsInRange
-size-small l h =
-    leb-true (l .size) 101000
-    (and-both (leb 1 (l .size)) (leb (l .size) 101000) (and-both (leb 1 (l .count) && leb (l .count) 64) (leb 1 (l .size) && leb (l .size) 101000) h .1) .1)
-
-count-some : (l : Limits) → limitsInRange l ≡ true → 0 < l .count
-unfolding limitsInRange
-count-some l h =
-    leb-true 1 (l .count) (and-left (leb 1 (l .count)) (leb (l .count) 64) (and-left (leb 1 (l .count) && leb (l .count) 64) (leb 1 (l .size) && leb (l .size) 101000) h))
 
 size-fits : (w size : ℕ) → w ≤ 4 * size → virtualSize w ≤ size
 unfolding virtualSize
@@ -139,19 +145,6 @@ module _ (p : Pool) (f : ℕ → Bool) (part : Part) (h : Gathered p f (p .limit
     stands l =
         ap₂ _&&_ (sym (h .whole) ∙ e)
         (le-leb (virtualSize (weightOf p f)) (p .limits .size) (size-fits (weightOf p f) (p .limits .size) (omega (arith, weight-is))))
-
--- a slot without links against the limits: it is one, and has its own weight
-module _ (p : Pool) (a : ℕ) (l : a < slotCount p) (m : a < capacity) (r : limitsInRange (p .limits) ≡ true) (h : hasLinks (slotAt p a) ≡ false) where
-  module _ (w : RawWeight) (e : w .0 ≡ weightAt p a) (n : w .0 ≤ most) where
-    itself : Gathered p (inCluster p a) (p .limits .count)
-        (record { found = setOf (λ i. eqb i a); union = record { count = 1; weight = w }; whole = ltb 0 (p .limits .count) })
-    itself = lone p a l (linked-none p a h) (p .limits .count) (setOf (λ i. eqb i a)) w (λ i. hasIn-set (λ j. eqb j a) i ∙ seed-one a i false m refl) e n
-
-    pub lone-heavy : 4 * p .limits .size < w .0 → isWithin p (inCluster p a) ≡ false
-    lone-heavy = too-heavy p _ _ itself (size-small (p .limits) r) (lt-ltb 0 (p .limits .count) (count-some (p .limits) r))
-
-    pub lone-stands : w .0 ≤ 4 * p .limits .size → isWithin p (inCluster p a) ≡ true
-    lone-stands = stands p _ _ itself (size-small (p .limits) r) (lt-ltb 0 (p .limits .count) (count-some (p .limits) r))
 
 -- ---- a set within another
 

@@ -46,35 +46,43 @@ meet-word us vs j d l = has-and (getD us j 0) (getD vs j 0) d ∙ ap₂ _&&_ (wo
 
 -- ---- a set that is found
 
-abbrev pub grown : List ℕ → List ℕ → ℕ → Bool
-grown found more i = hasIn found i || hasIn more i
+abbrev pub grown : List ℕ → (ℕ → Bool) → ℕ → Bool
+grown found f i = hasIn found i || f i
 
-abbrev pub queued : List ℕ → List ℕ → List ℕ → ℕ → Bool
-queued found todo more i = hasIn todo i || (hasIn more i && not (hasIn found i))
+abbrev pub queued : List ℕ → List ℕ → (ℕ → Bool) → ℕ → Bool
+queued found todo f i = hasIn todo i || (f i && not (hasIn found i))
 
-module _ {found now : List ℕ} {j : ℕ} (more : List ℕ) (l : j < setWords) (u : Upto (grown found more) j found now) (long : length found ≡ setWords) where
-  pub grown-turn : Upto (grown found more) (j + 1) found (set now j (bitOr (getD now j 0) (getD more j 0)))
+-- one word w more of a set f
+module _
+    {found now : List ℕ}
+    {j : ℕ}
+    (f : ℕ → Bool)
+    (w : ℕ)
+    (word : (d : ℕ) → d < 64 → has w d ≡ f (64 * j + d))
+    (l : j < setWords)
+    (u : Upto (grown found f) j found now)
+    (long : length found ≡ setWords) where
+  pub grown-turn : Upto (grown found f) (j + 1) found (set now j (bitOr (getD now j 0) w))
   grown-turn =
-      upto-turn u (bitOr (getD now j 0) (getD more j 0)) (rw long l)
-      (λ d m. has-or (getD now j 0) (getD more j 0) d ∙ ap₂ _||_ (upto-old u d m) (word-in more j d m))
+      upto-turn u (bitOr (getD now j 0) w) (rw long l) (λ d m. has-or (getD now j 0) w d ∙ ap₂ _||_ (upto-old u d m) (word d m))
 
-  pub queued-turn : {todo next : List ℕ} → Upto (queued found todo more) j todo next → length todo ≡ setWords → getD more j 0 < 2 ^ 64 → getD now j 0 < 2 ^ 64
-      → Upto (queued found todo more) (j + 1) todo (set next j (bitOr (getD next j 0) (bitAnd (getD more j 0) ((2 ^ 64 - 1) - getD now j 0))))
+  pub queued-turn : {todo next : List ℕ} → Upto (queued found todo f) j todo next → length todo ≡ setWords → w < 2 ^ 64 → getD now j 0 < 2 ^ 64
+      → Upto (queued found todo f) (j + 1) todo (set next j (bitOr (getD next j 0) (bitAnd w ((2 ^ 64 - 1) - getD now j 0))))
   queued-turn {todo} {next} v wide fm fn =
-      let new = bitAnd (getD more j 0) ((2 ^ 64 - 1) - getD now j 0) in
+      let new = bitAnd w ((2 ^ 64 - 1) - getD now j 0) in
       upto-turn v (bitOr (getD next j 0) new) (rw wide l)
       (λ d m.
       has-or (getD next j 0) new d
       ∙ ap₂ _||_ (upto-old v d m)
-      (has-less 64 d (getD more j 0) (getD now j 0) fm fn ∙ ap₂ (λ (x y : Bool). x && not y) (word-in more j d m) (upto-old u d m)))
+      (has-less 64 d w (getD now j 0) fm fn ∙ ap₂ (λ (x y : Bool). x && not y) (word d m) (upto-old u d m)))
 
-module _ (more : List ℕ) (long : length more ≡ setWords) (i : ℕ) (l : capacity ≤ i) where
+module _ (f : ℕ → Bool) (i : ℕ) (out : f i ≡ false) where
   -- past the last word there is nothing to add
-  pub grown-past : (found : List ℕ) → grown found more i ≡ hasIn found i
-  grown-past found = ap (λ (b : Bool). hasIn found i || b) (set-past more long i l) ∙ or-false (hasIn found i)
+  pub grown-past : (found : List ℕ) → grown found f i ≡ hasIn found i
+  grown-past found = ap (λ (b : Bool). hasIn found i || b) out ∙ or-false (hasIn found i)
 
-  pub queued-past : (found todo : List ℕ) → queued found todo more i ≡ hasIn todo i
-  queued-past found todo = ap (λ (b : Bool). hasIn todo i || (b && not (hasIn found i))) (set-past more long i l) ∙ or-false (hasIn todo i)
+  pub queued-past : (found todo : List ℕ) → queued found todo f i ≡ hasIn todo i
+  queued-past found todo = ap (λ (b : Bool). hasIn todo i || (b && not (hasIn found i))) out ∙ or-false (hasIn todo i)
 
 -- ---- the slots of a table of a legal length
 

@@ -3,16 +3,16 @@
 ghost use mathlib.Core.Path.{_≡_};
 ghost use mathlib.Core.Bool.{not, _&&_, _||_};
 ghost use Prim.Native.Nat.{ℕ, _+_, _<_, min};
-ghost use lib.Dec.{ltb};
+ghost use lib.Dec.{ltb, leb};
 ghost use lib.ListN.{length};
 ghost use Rattle.txset.specs.Sets.{hasIn};
-ghost use Rattle.weights.specs.Weights.{most};
+ghost use Rattle.weights.specs.Weights.{most, virtualSize};
 ghost use Rattle.slotsets.specs.SlotSets.{setWords};
-ghost use Rattle.pool_table.specs.Pool.{slotCount};
+ghost use Rattle.pool_table.specs.Pool.{slotCount, weightAt};
 ghost use Rattle.pool_table.specs.Words.{isLegal, poolOf};
 ghost use Rattle.pool_table.specs.Ranges.{limitsInRange};
 ghost use Rattle.pool_table.specs.Links.{isLinked, inCluster, inClusters};
-ghost use Rattle.pool_table.specs.WellFormed.{clustersWithin};
+ghost use Rattle.pool_table.specs.WellFormed.{isWithin, clustersWithin};
 ghost use Rattle.pool_clusters.specs.Clusters.{clustersOf, AllSlots, Gathered};
 use pool_table::Limits;
 use pool_table::Side;
@@ -37,6 +37,12 @@ pub struct Union {
     pub weight: RawWeight,
 }
 
+// A cluster's members, and whether it is within the limits.
+pub struct Limited {
+    pub found: [u64; 16],
+    pub within: bool,
+}
+
 // What a search found: the whole, or some part, where it was stopped since there is more than its limit.
 struct Part {
     found: [u64; 16],
@@ -44,35 +50,22 @@ struct Part {
     whole: bool,
 }
 
-// The slots that slot a names on either side, of those in `all`, the pool's slots.
-fn near(table: &[u64], all: &[u64], a: usize) -> [u64; 16]
+// Finds the slots that slot a names on either side, of those in `all`, the pool's slots: what was not found yet is to be looked at.
+fn spread(table: &[u64], all: &[u64], a: usize, found: &mut [u64], todo: &mut [u64])
     requires { ⌜ AllSlots (poolOf (now table)) (now all) ⌝ }
-    ensures { λ r. ⌜ ((i : ℕ) → hasIn r i ≡ isLinked (poolOf (now (table .entry))) a i) ⌝ }
+    requires { ⌜ (length (now found) ≡ setWords) × (length (now todo) ≡ setWords) ⌝ }
+    ensures { λ _. ⌜ (length (now (found .exit)) ≡ setWords) × (length (now (todo .exit)) ≡ setWords) ⌝ }
+    ensures { λ _. ⌜ ((i : ℕ) → hasIn (now (found .exit)) i ≡ (hasIn (now (found .entry)) i || isLinked (poolOf (now (table .entry))) a i)) ⌝ }
+    ensures { λ _. ⌜ ((i : ℕ) → hasIn (now (todo .exit)) i
+        ≡ (hasIn (now (todo .entry)) i || (isLinked (poolOf (now (table .entry))) a i && not (hasIn (now (found .entry)) i)))) ⌝ }
 {
-    let mut set = [0u64; 16];
     let mut j: usize = 0;
     while j < SET_WORDS {
         let links = link_word(table, Side::Parents, a, j) | link_word(table, Side::Children, a, j);
-        let w = all[j] & links;
-        set[j] = w;
-        j += 1;
-    }
-    set
-}
-
-// Finds `more`: what of it was not found yet is to be looked at.
-fn spread(more: &[u64], found: &mut [u64], todo: &mut [u64])
-    requires { ⌜ (length (now more) ≡ setWords) × (length (now found) ≡ setWords) × (length (now todo) ≡ setWords) ⌝ }
-    ensures { λ _. ⌜ (length (now (found .exit)) ≡ setWords) × (length (now (todo .exit)) ≡ setWords) ⌝ }
-    ensures { λ _. ⌜ ((i : ℕ) → hasIn (now (found .exit)) i ≡ (hasIn (now (found .entry)) i || hasIn (now (more .entry)) i)) ⌝ }
-    ensures { λ _. ⌜ ((i : ℕ) → hasIn (now (todo .exit)) i
-        ≡ (hasIn (now (todo .entry)) i || (hasIn (now (more .entry)) i && not (hasIn (now (found .entry)) i)))) ⌝ }
-{
-    let mut j: usize = 0;
-    while j < SET_WORDS {
+        let more = all[j] & links;
         let old = found[j];
-        let new = more[j] & !old;
-        let grown = old | more[j];
+        let new = more & !old;
+        let grown = old | more;
         let left = todo[j] | new;
         found[j] = grown;
         todo[j] = left;
@@ -138,8 +131,7 @@ fn gather(table: &[u64], all: &[u64], seeds: &[u64], limit: usize) -> Part
             };
         }
         remove(&mut todo, a);
-        let more = near(table, all, a);
-        spread(&more, &mut found, &mut todo);
+        spread(table, all, a, &mut found, &mut todo);
         count += 1;
         weight = held_sum(weight, pool_table::weight(table, a).0);
     }
@@ -160,7 +152,7 @@ pub fn clusters_of(table: &[u64], seeds: &[u64]) -> Union
     part.union
 }
 
-// The cluster of slot a, while it has at most `limit` members. A slot without links is its own cluster, and needs no search.
+// The cluster of slot a, while it has at most `limit` members.
 fn cluster(table: &[u64], all: &[u64], a: usize, limit: usize) -> Part
     requires { ⌜ AllSlots (poolOf (now table)) (now all) ⌝ }
     requires { ⌜ a < slotCount (poolOf (now table)) ⌝ }
@@ -168,34 +160,52 @@ fn cluster(table: &[u64], all: &[u64], a: usize, limit: usize) -> Part
 {
     let mut seeds = [0u64; 16];
     insert(&mut seeds, a);
-    if is_linked(table, a) {
-        return gather(table, all, &seeds, limit);
-    }
-    Part {
-        found: seeds,
-        union: Union {
-            count: 1,
-            weight: pool_table::weight(table, a),
-        },
-        whole: 0 < limit,
-    }
+    gather(table, all, &seeds, limit)
 }
 
-// The members of the cluster of slot a: none where there is no such slot.
-pub fn cluster_of(table: &[u64], a: usize) -> [u64; 16]
-    ensures { λ r. ⌜ ((i : ℕ) → hasIn r i ≡ (isLegal (length (now (table .entry)))
-        && (ltb a (slotCount (poolOf (now (table .entry)))) && inCluster (poolOf (now (table .entry))) a i))) ⌝ }
+// The members of the cluster of slot a, where the cluster is within the table's limits: none where it is not, or there is no such slot.
+pub fn cluster_within(table: &[u64], a: usize) -> Limited
+    ensures { λ r. ⌜ r .within ≡ (isLegal (length (now (table .entry))) && (limitsInRange (poolOf (now (table .entry)) .limits)
+        && (ltb a (slotCount (poolOf (now (table .entry)))) && isWithin (poolOf (now (table .entry))) (inCluster (poolOf (now (table .entry))) a)))) ⌝ }
+    ensures { λ r. ⌜ ((i : ℕ) → hasIn (r .found) i ≡ (r .within && inCluster (poolOf (now (table .entry))) a i)) ⌝ }
 {
+    let none = Limited {
+        found: [0u64; 16],
+        within: false,
+    };
     if !is_legal(table) {
-        return [0u64; 16];
+        return none;
+    }
+    let limits = Limits::of(table);
+    if !limits.in_range() {
+        return none;
     }
     let n = slots(table);
     if n <= a {
-        return [0u64; 16];
+        return none;
     }
     let all = below(n);
-    let part = cluster(table, &all, a, CAPACITY);
-    part.found
+    let part = cluster(table, &all, a, limits.count as usize);
+    if !part.whole {
+        return none; // too many
+    }
+    let most = 4 * limits.size;
+    if most < part.union.weight.0 {
+        return none; // too large
+    }
+    let found = part.found;
+    Limited {
+        found,
+        within: true,
+    }
+}
+
+// Whether a slot without links, which is a cluster by itself, is within the size limit. One member is within every count limit.
+pub fn alone_within(table: &[u64], a: usize) -> bool
+    ensures { λ r. ⌜ r ≡ leb (virtualSize (weightAt (poolOf (now (table .entry))) a)) (poolOf (now (table .entry)) .limits .size) ⌝ }
+{
+    let limits = Limits::of(table);
+    pool_table::weight(table, a).virtual_size() <= limits.size
 }
 
 // Whether no cluster passes a limit, for a table of any content. Links may go one way, so that clusters overlap: a slot that was seen in a
@@ -224,8 +234,8 @@ pub fn clusters_stand(table: &[u64]) -> bool
             continue;
         }
         if !is_linked(table, a) {
-            if 4 * limits.size < pool_table::weight(table, a).0 {
-                return false; // the slot alone
+            if !alone_within(table, a) {
+                return false;
             }
             continue;
         }

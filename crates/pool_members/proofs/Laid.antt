@@ -6,10 +6,10 @@ use mathlib.Core.Logic.{⊎-elim}
 use mathlib.Core.List.{List, [], _∷_, _++_, map}
 use Prim.Native.Nat.{ℕ, _≤_, _<_, _^_}
 use native.Mathlib.Omega.{arith}
-use lib.Dec.{ltb}
+use lib.Dec.{eqb, ltb}
 use lib.ListN.{length, getD, take, drop}
 use lib.Seq.{take-at}
-use borrow.Author.Tests.{lt-ltb, ltb-true}
+use borrow.Author.Tests.{lt-ltb, ltb-true, eqb-true}
 use Rattle.lists.specs.Lists.{elem, overwrite}
 use Rattle.lists.proofs.Bools.{clash, and-left, and-both, asked, true-together}
 use Rattle.lists.proofs.Numbers.{lt-or-ge}
@@ -22,21 +22,23 @@ use Rattle.slotsets.specs.SlotSets.{capacity}
 use Rattle.slotsets.proofs.SlotSets.{none-has}
 use Rattle.pool_table.specs.declared.Side.the-variants.{Parents}
 use Rattle.pool_table.specs.Pool.{Slot, slotAt, slotCount, occupied}
-use Rattle.pool_table.specs.Words.{isLegal, poolOf}
-use Rattle.pool_table.specs.Links.{isParent, inCluster}
+use Rattle.pool_table.specs.Words.{poolOf}
+use Rattle.pool_table.specs.Links.{hasLinks, isParent, inCluster}
 use Rattle.pool_table.specs.WellFormed.{wellFormed}
 use Rattle.pool_table.proofs.Legal.{few-slots}
 use Rattle.pool_table.proofs.Rows.{slot-past}
 use Rattle.pool_links.proofs.Mutual.{parent-parts, is-parent, occupied-in, named-in}
-use Rattle.pool_rules.proofs.Sound.{Sound, well-legal, well-sound}
 use Rattle.pool_order.specs.Order.{slotsByTxid, roomy, standsIn}
 use Rattle.pool_order.specs.Packed.{unpacked, Standing}
 use Rattle.pool_order.proofs.Slots.{entries-within, sorted-many, sorted-below, count-within, order-written, roomy-append, roomy-both}
+use Rattle.pool_order.proofs.Theorems.{slots-once}
+use Rattle.pool_clusters.proofs.Limits.{lone-cluster}
 use Rattle.pool_clusters.proofs.Theorems.{cluster-occupied}
+use Rattle.pool_check.specs.Linked.{Linked}
 use Rattle.pool_members.specs.Members.{membersOf, parentsOf}
 use Rattle.pool_members.specs.Steps.{Ranked, isRank, chosenOf, Closed}
-use Rattle.pool_members.proofs.Only.{only-places}
-use Rattle.pool_members.proofs.Members.{slots-are, parent-has, parents-fit}
+use Rattle.pool_members.proofs.Only.{only-places, only-one, place-of}
+use Rattle.pool_members.proofs.Members.{slots-are, own-member, parent-has, parents-fit}
 use Rattle.pool_members.proofs.Ranks.{ranks-are}
 
 -- ---- the rooms, and whether the table stands
@@ -67,17 +69,14 @@ pub stands-both : (t rooms : List ℕ) → standsIn t rooms ≡ true → (roomy 
 unfolding standsIn
 stands-both t rooms e = and-both (roomy (slotCount (poolOf t)) rooms) (wellFormed t) e
 
-module _ (t : List ℕ) (well : wellFormed t ≡ true) where
+module _ (t : List ℕ) (linked : Linked t) where
   pub few : slotCount (poolOf t) ≤ capacity
-  few = few-slots t (well-legal t well)
-
-  pub sound : Sound (poolOf t)
-  sound = well-sound t well
+  few = few-slots t (linked .legal)
 
   -- ---- members
 
   pub slots-few : length (slotsByTxid (poolOf t)) ≤ capacity
-  slots-few = count-within t (well-legal t well) (sorted-many (poolOf t))
+  slots-few = count-within t (linked .legal) (sorted-many (poolOf t))
 
   pub slots-below : (k : ℕ) → k < length (slotsByTxid (poolOf t)) → getD (slotsByTxid (poolOf t)) k 0 < capacity
   slots-below k l = each-at (λ s. s < capacity) (slotsByTxid (poolOf t)) 0 (sorted-below (poolOf t) few) k l
@@ -98,32 +97,25 @@ module _ (t : List ℕ) (well : wellFormed t ≡ true) where
     pub order-is : (order : List ℕ) {new : List ℕ} → new ≡ overwrite (map unpacked (take n keys)) order → take n new ≡ slotsByTxid (poolOf t)
     order-is order e =
         let xs = slotsByTxid (poolOf t) in
-        ap (take n) (e ∙ order-written t keys old (well-legal t well) (packed .many) order (packed .are))
+        ap (take n) (e ∙ order-written t keys old (linked .legal) (packed .many) order (packed .are))
         ∙ take-at xs (drop (length xs) order) n (sym order-many)
 
   module _
       (s : ℕ)
       (taken : occupied (poolOf t) s ≡ true)
       (set : List ℕ)
-      (found : (i : ℕ) → hasIn set i ≡ (isLegal (length t) && (ltb s (slotCount (poolOf t)) && inCluster (poolOf t) s i))) where
-    -- what was found is the cluster, whose members a set can hold
-    found-is : (i : ℕ) → hasIn set i ≡ inCluster (poolOf t) s i
-    found-is i =
-        found i
-        ∙ ap₂ (λ (b c : Bool). b && (c && inCluster (poolOf t) s i)) (well-legal t well)
-        (lt-ltb s (slotCount (poolOf t)) (occupied-in (poolOf t) s taken))
-
+      (found : (i : ℕ) → hasIn set i ≡ inCluster (poolOf t) s i) where
     found-taken : (i : ℕ) → inCluster (poolOf t) s i ≡ true → occupied (poolOf t) i ≡ true
-    found-taken i e = cluster-occupied (poolOf t) few (sound .links) s i taken e
+    found-taken i e = cluster-occupied (poolOf t) few (linked .links) s i taken e
 
     pub found-all : (i : ℕ) → (ltb i capacity && hasIn set i) ≡ inCluster (poolOf t) s i
     found-all i =
-        ap (λ (b : Bool). ltb i capacity && b) (found-is i)
+        ap (λ (b : Bool). ltb i capacity && b) (found i)
         ∙ asked (ltb i capacity) (inCluster (poolOf t) s i) (λ e. lt-ltb i capacity (omega (arith, occupied-in (poolOf t) i (found-taken i e), few)))
 
     -- each of them is one of the slots
     pub found-in : (i : ℕ) → hasIn set i ≡ true → i < slotCount (poolOf t)
-    found-in i e = occupied-in (poolOf t) i (found-taken i (sym (found-is i) ∙ e))
+    found-in i e = occupied-in (poolOf t) i (found-taken i (sym (found i) ∙ e))
 
     module _
         (ranks among : List ℕ)
@@ -135,8 +127,8 @@ module _ (t : List ℕ) (well : wellFormed t ≡ true) where
           let xs = slotsByTxid p in
           told r
           ∙ ap (λ (b : Bool). ltb r capacity && b)
-          (ranks-are xs ranks (hasIn set) ranked slots-below (λ i e. slots-are p i ∙ found-taken i (sym (found-is i) ∙ e)) r
-          ∙ ap (λ (b : Bool). ltb r (length xs) && b) (found-is (getD xs r 0)))
+          (ranks-are xs ranks (hasIn set) ranked slots-below (λ i e. slots-are p i ∙ found-taken i (sym (found i) ∙ e)) r
+          ∙ ap (λ (b : Bool). ltb r (length xs) && b) (found (getD xs r 0)))
           ∙ asked (ltb r capacity) (ltb r (length xs) && inCluster p s (getD xs r 0))
           (λ e. lt-ltb r capacity (omega (arith, slots-few, ltb-true r (length xs) (and-left (ltb r (length xs)) _ e))))
 
@@ -151,6 +143,26 @@ module _ (t : List ℕ) (well : wellFormed t ≡ true) where
           ap (map (λ r. getD xs r 0)) (list-below (hasIn among) (λ r. inCluster p s (getD xs r 0)) (length xs) capacity slots-few among-is)
           ∙ only-places (inCluster p s) xs
 
+  -- ---- a slot without links
+
+  module _ (s : ℕ) (taken : occupied (poolOf t) s ≡ true) where
+    pub members-some : 0 < length (membersOf (poolOf t) s)
+    members-some =
+        let u = place-of (membersOf (poolOf t) s) s (own-member (poolOf t) few (linked .links) s taken) in omega (arith, u .1)
+
+    module _ (alone : hasLinks (slotAt (poolOf t) s) ≡ false) where
+      pub alone-members : membersOf (poolOf t) s ≡ s ∷ []
+      unfolding membersOf
+      alone-members =
+          let p = poolOf t in
+          only-one (inCluster p s) s (slotsByTxid p) (lone-cluster p s (occupied-in p s taken) alone) (slots-once p) (slots-are p s ∙ taken)
+
+      pub alone-all : (i : ℕ) → (ltb i capacity && eqb i s) ≡ inCluster (poolOf t) s i
+      alone-all i =
+          let p = poolOf t in
+          asked (ltb i capacity) (eqb i s) (λ e. lt-ltb i capacity (omega (arith, eqb-true i s e, occupied-in p s taken, few)))
+          ∙ sym (lone-cluster p s (occupied-in p s taken) alone i)
+
   -- ---- parents
 
   parent-is : (s a : ℕ) → hasIn (slotAt (poolOf t) s .parents) a ≡ isParent (poolOf t) s a
@@ -160,7 +172,7 @@ module _ (t : List ℕ) (well : wellFormed t ≡ true) where
       (λ e.
       let l : s < slotCount p =
       ⊎-elim (λ l. l) (λ l. clash e (ap (λ (x : Slot). hasIn (x .parents) a) (slot-past p s l) ∙ none-has a)) (lt-or-ge s (slotCount p)) in
-      is-parent p s a l (named-in t (sound .links) Parents s a l e) e)
+      is-parent p s a l (named-in t (linked .links) Parents s a l e) e)
       (λ e. parent-parts p s a e .2)
 
   pub parent-in : (s a : ℕ) → hasIn (slotAt (poolOf t) s .parents) a ≡ true → a < slotCount (poolOf t)

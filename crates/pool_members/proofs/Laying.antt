@@ -13,24 +13,26 @@ use lib.Seq.{take-suc, take-all, getD-set-same}
 use borrow.Author.Tests.{eq-eqb, eqb-true, not-true, not-false}
 use Rattle.lists.specs.Below.{keepIf}
 use Rattle.lists.specs.Lists.{anyOf, only, elem}
-use Rattle.lists.proofs.Bools.{clash, and-both, asked, is-false, is-true}
+use Rattle.lists.proofs.Bools.{clash, and-both, asked, implies, is-false, is-true}
 use Rattle.lists.proofs.Lists.{elem-at, elem-append, elem-snoc, elem-left, in-snoc, in-append}
-use Rattle.txset.specs.Sets.{hasIn}
+use Rattle.lists.proofs.Below.{at-all}
+use Rattle.txset.specs.Sets.{positions, hasIn}
 use Rattle.slotsets.specs.SlotSets.{capacity, setWords}
 use Rattle.pool_table.specs.Pool.{Pool, slotCount, occupied, entries}
 use Rattle.pool_table.specs.Links.{isParent, itself, inCluster}
+use Rattle.pool_table.specs.WellFormed.{linksMutual, isWithin, clustersWithin}
 use Rattle.pool_links.proofs.Mutual.{occupied-in}
-use Rattle.pool_rules.proofs.Sound.{Sound}
 use Rattle.pool_order.specs.Order.{slotsByTxid}
 use Rattle.pool_order.proofs.Slots.{entries-within, sorted-many}
 use Rattle.pool_order.proofs.Theorems.{slots-once}
+use Rattle.pool_clusters.proofs.Limits.{cluster-less}
 use Rattle.pool_clusters.proofs.Theorems.{together-cluster, parent-cluster, cluster-same, cluster-occupied}
 use Rattle.pool_members.specs.Members.{membersOf, parentsOf, leadOf, clusters}
 use Rattle.pool_members.specs.Rows.{Rows}
 use Rattle.pool_members.specs.Layout.{LaidOut}
 use Rattle.pool_members.specs.Steps.{StoredAt, Closed, Rooms}
 use Rattle.pool_members.proofs.Only.{elem-only, only-append, only-first, length-only, place-of, in-flatten, flatten-in, flatten-append, flatten-snoc}
-use Rattle.pool_members.proofs.Members.{slots-are, member-is, member-parts, members-once, members-same, own-member, members-few, lead-member}
+use Rattle.pool_members.proofs.Members.{slots-are, member-is, member-parts, members-once, members-same, own-member, lead-member}
 use Rattle.pool_members.proofs.Members.{lead-same, clusters-elem, clusters-members}
 use Rattle.pool_members.proofs.Rows.{rows-start, rows-end, rows-put, part-same}
 use Rattle.pool_members.proofs.Stored.{none-before}
@@ -74,18 +76,18 @@ laid-count p i =
     let xs = take i (slotsByTxid p) in
     omega (arith, length-map (only (isLead p) xs) (membersOf p), length-only (isLead p) xs, length-take i (slotsByTxid p), sorted-many p)
 
-module _ (p : Pool) (few : slotCount p ≤ capacity) (sound : Sound p) where
+module _ (p : Pool) (few : slotCount p ≤ capacity) (links : linksMutual p ≡ true) where
   -- a cluster to be noted
-  pub members-closed : (s : ℕ) → occupied p s ≡ true → Closed p (membersOf p s)
-  members-closed s o =
+  pub members-closed : (s : ℕ) → occupied p s ≡ true → length (membersOf p s) ≤ positions → Closed p (membersOf p s)
+  members-closed s o short =
       record {
         once = members-once p s;
-        few = members-few p few sound s o;
+        few = short;
         below = λ x m. occupied-in p x (member-parts p s x m .0);
         parents =
             λ x a m e.
-            let in′ = cluster-same p few (sound .links) s x (member-parts p s x m .1) a ∙ parent-cluster p x a e in
-            member-is p s a ∙ ap₂ _&&_ (cluster-occupied p few (sound .links) s a o in′) in′;
+            let in′ = cluster-same p few links s x (member-parts p s x m .1) a ∙ parent-cluster p x a e in
+            member-is p s a ∙ ap₂ _&&_ (cluster-occupied p few links s a o in′) in′;
       }
 
   -- no more members than entries
@@ -99,7 +101,7 @@ module _ (p : Pool) (few : slotCount p ≤ capacity) (sound : Sound p) where
       ∙ ap (map (membersOf p)) (sym (only-append (isLead p) (take i xs) (drop i xs)) ∙ ap (only (isLead p)) (take-append-drop i xs)) in
       omega (
         arith,
-        clusters-members p few sound,
+        clusters-members p few links,
         ap (λ (xss : List (List ℕ)). length (flatten xss)) all,
         ap length (flatten-append (laid p i) rest),
         length-append (flatten (laid p i)) (flatten rest),
@@ -117,7 +119,7 @@ module _ (p : Pool) (few : slotCount p ≤ capacity) (sound : Sound p) where
       let o : occupied p (u .of) ≡ true =
       sym (slots-are p (u .of)) ∙ ap (elem (u .of)) (sym (take-append-drop i xs)) ∙ elem-left (u .of) (take i xs) (drop i xs) (b .0) in
       let z : leadOf p s ≡ u .of =
-      lead-same p few sound (u .of) s o (member-parts p (u .of) s (u .here) .1) ∙ sym (eqb-true (u .of) (leadOf p (u .of)) (b .1)) in
+      lead-same p few links (u .of) s o (member-parts p (u .of) s (u .here) .1) ∙ sym (eqb-true (u .of) (leadOf p (u .of)) (b .1)) in
       is-false (isLead p s) (λ q.
       clash (ap (λ (x : ℕ). elem x (take i xs)) (eqb-true s (leadOf p s) q ∙ z) ∙ b .0) (none-before xs i (slots-once p) l))
 
@@ -140,11 +142,11 @@ module _ (p : Pool) (few : slotCount p ≤ capacity) (sound : Sound p) where
       let xs = slotsByTxid p in
       let s = getD xs i 0 in
       let o : occupied p s ≡ true = sym (slots-are p s) ∙ elem-at xs i l in
-      let m = member-parts p s (leadOf p s) (lead-member p few sound s o) .1 in
-      let lead : isLead p (leadOf p s) ≡ true = eq-eqb (leadOf p s) (leadOf p (leadOf p s)) (sym (lead-same p few sound s (leadOf p s) o m)) in
+      let m = member-parts p s (leadOf p s) (lead-member p few links s o) .1 in
+      let lead : isLead p (leadOf p s) ≡ true = eq-eqb (leadOf p s) (leadOf p (leadOf p s)) (sym (lead-same p few links s (leadOf p s) o m)) in
       flatten-in (membersOf p) (only (isLead p) (take i xs)) s (leadOf p s)
       (elem-only (isLead p) (take i xs) (leadOf p s) ∙ ap₂ _&&_ (lead-before s i l refl e) lead)
-      (ap (elem s) (members-same p few sound s (leadOf p s) m) ∙ own-member p few sound s o)
+      (ap (elem s) (members-same p few links s (leadOf p s) m) ∙ own-member p few links s o)
 
   -- clusters are apart: one that shares a member with those laid out is one of them
   laid-apart : (i s : ℕ) → occupied p s ≡ true → elem s (flatten (laid p i)) ≡ false
@@ -154,9 +156,9 @@ module _ (p : Pool) (few : slotCount p ≤ capacity) (sound : Sound p) where
       let u = in-flatten (membersOf p) (only (isLead p) (take i (slotsByTxid p))) x e in
       is-false (elem x (membersOf p s)) (λ m.
       let z : membersOf p s ≡ membersOf p (u .of) =
-      sym (members-same p few sound s x (member-parts p s x m .1)) ∙ members-same p few sound (u .of) x (member-parts p (u .of) x (u .here) .1) in
+      sym (members-same p few links s x (member-parts p s x m .1)) ∙ members-same p few links (u .of) x (member-parts p (u .of) x (u .here) .1) in
       clash
-      (flatten-in (membersOf p) (only (isLead p) (take i (slotsByTxid p))) s (u .of) (u .listed) (ap (elem s) (sym z) ∙ own-member p few sound s o))
+      (flatten-in (membersOf p) (only (isLead p) (take i (slotsByTxid p))) s (u .of) (u .listed) (ap (elem s) (sym z) ∙ own-member p few links s o))
       new)
 
 -- ---- the arrays
@@ -173,6 +175,7 @@ pub record Laying (p : Pool) (parts : List (List ℕ)) (members bounds firsts up
   pub ends : end ≡ getD bounds (length parts) 0
   pub known : (x : ℕ) → hasIn seen x ≡ elem x (flatten parts)
   pub placed : (s : ℕ) → elem s (flatten parts) ≡ true → Placed p members firsts ups end s
+  pub within : (s : ℕ) → elem s (flatten parts) ≡ true → isWithin p (inCluster p s) ≡ true
   pub rooms : Rooms p members bounds firsts ups places
   pub seen-long : length seen ≡ setWords
 
@@ -186,6 +189,7 @@ laying-start p {members} {bounds} seen rooms ls none =
       ends = sym (rooms .start);
       known = none;
       placed = λ s e. clash e refl;
+      within = λ s e. clash e refl;
       rooms = rooms;
       seen-long = ls;
     }
@@ -196,14 +200,22 @@ module _
     {members bounds firsts ups places seen : List ℕ}
     {count end : ℕ}
     (few : slotCount p ≤ capacity)
-    (sound : Sound p)
+    (links : linksMutual p ≡ true)
     (i : ℕ)
     (l : length (slotsByTxid p) ≤ i)
     (h : Laying p (laid p i) members bounds firsts ups places seen count end) where
+  pub laying-within : clustersWithin p ≡ true
+  unfolding clustersWithin
+  laying-within =
+      at-all (λ s. not (occupied p s) || isWithin p (inCluster p s)) (slotCount p) 0
+      (λ s _ _.
+      implies (occupied p s) (isWithin p (inCluster p s))
+      (λ o. h .within s (ap (λ (xss : List (List ℕ)). elem s (flatten xss)) (laid-all p i l) ∙ clusters-elem p few links s ∙ o)))
+
   pub laying-done : LaidOut p count members bounds firsts ups
   laying-done =
       let all : (s : ℕ) → occupied p s ≡ true → Placed p members firsts ups end s =
-      λ s o. h .placed s (ap (λ (xss : List (List ℕ)). elem s (flatten xss)) (laid-all p i l) ∙ clusters-elem p few sound s ∙ o) in
+      λ s o. h .placed s (ap (λ (xss : List (List ℕ)). elem s (flatten xss)) (laid-all p i l) ∙ clusters-elem p few links s ∙ o) in
       record {
         many = h .counted ∙ ap length (laid-all p i l);
         rows = subst (Rows members bounds) (laid-all p i l) (h .rows);
@@ -213,6 +225,7 @@ module _
 -- what is written when the cluster of s is laid out, and what stays
 pub record Added (p : Pool) (s : ℕ) (members firsts ups places seen : List ℕ) (end : ℕ) (members′ firsts′ ups′ places′ seen′ : List ℕ) (e : ℕ)
     : Type 0 where
+  pub good : isWithin p (inCluster p s) ≡ true
   pub total : e ≡ end + length (membersOf p s)
   pub long : length members′ ≡ length members
   pub kept : take end members′ ≡ take end members
@@ -232,7 +245,7 @@ module _
     {members′ firsts′ ups′ places′ seen′ : List ℕ}
     {e : ℕ}
     (few : slotCount p ≤ capacity)
-    (sound : Sound p)
+    (links : linksMutual p ≡ true)
     (h : Laying p parts members bounds firsts ups places seen count end)
     (u : Added p s members firsts ups places seen end members′ firsts′ ups′ places′ seen′ e)
     (taken : occupied p s ≡ true)
@@ -249,7 +262,7 @@ module _
   more-known : (x : ℕ) → hasIn seen′ x ≡ elem x (flatten (parts ++ (membersOf p s ∷ [])))
   more-known x =
       u .told x
-      ∙ ap₂ _||_ (h .known x) (sym (member-is p s x ∙ asked (occupied p x) (inCluster p s x) (cluster-occupied p few (sound .links) s x taken)))
+      ∙ ap₂ _||_ (h .known x) (sym (member-is p s x ∙ asked (occupied p x) (inCluster p s x) (cluster-occupied p few links s x taken)))
       ∙ sym (ap (elem x) (flatten-snoc parts (membersOf p s)) ∙ elem-append x (flatten parts) (membersOf p s))
 
   -- a slot of the clusters before, and one of this cluster
@@ -271,7 +284,7 @@ module _
   new-placed x m =
       let ms = membersOf p s in
       let k = place-of ms x m in
-      let z : ms ≡ membersOf p x = sym (members-same p few sound s x (member-parts p s x m .1)) in
+      let z : ms ≡ membersOf p x = sym (members-same p few links s x (member-parts p s x m .1)) in
       let f : getD firsts′ x 0 ≡ end = ap (λ (i : ℕ). getD firsts′ i 0) (sym (k .2)) ∙ u .starts .here (k .0) (k .1) in
       record {
         inside = omega (arith, ap length z, u .total);
@@ -297,6 +310,10 @@ module _
             λ x m.
             ⊎-elim (old-placed x) (new-placed x)
             (in-append x (flatten parts) (membersOf p s) (ap (elem x) (sym (flatten-snoc parts (membersOf p s))) ∙ m));
+        within =
+            λ x m.
+            ⊎-elim (h .within x) (λ k. cluster-less p s x (member-parts p s x k .1) (u .good))
+            (in-append x (flatten parts) (membersOf p s) (ap (elem x) (sym (flatten-snoc parts (membersOf p s))) ∙ m));
         rooms =
             record {
               in-members = omega (arith, u .long, h .rooms .in-members);
@@ -315,7 +332,7 @@ module _
     {members bounds firsts ups places seen : List ℕ}
     {count end : ℕ}
     (few : slotCount p ≤ capacity)
-    (sound : Sound p)
+    (links : linksMutual p ≡ true)
     (i : ℕ)
     (l : i < length (slotsByTxid p))
     (s : ℕ)
@@ -328,7 +345,7 @@ module _
   pub laying-skip : hasIn seen s ≡ true → Laying p (laid p (i + 1)) members bounds firsts ups places seen count end
   laying-skip e =
       subst (λ (parts : List (List ℕ)). Laying p parts members bounds firsts ups places seen count end)
-      (sym (laid-skip p i l (laid-before p few sound i l (ap (λ (x : ℕ). elem x (flatten (laid p i))) (sym at) ∙ sym (h .known s) ∙ e))))
+      (sym (laid-skip p i l (laid-before p few links i l (ap (λ (x : ℕ). elem x (flatten (laid p i))) (sym at) ∙ sym (h .known s) ∙ e))))
       h
 
   -- that was not: its cluster comes next
@@ -337,7 +354,7 @@ module _
     next =
         laid-more p i l
         (is-true (isLead p (getD (slotsByTxid p) i 0)) (λ e.
-        clash (ap (λ (x : ℕ). elem x (flatten (laid p i))) at ∙ before-laid p few sound i l e) (sym (h .known s) ∙ new)))
+        clash (ap (λ (x : ℕ). elem x (flatten (laid p i))) at ∙ before-laid p few links i l e) (sym (h .known s) ∙ new)))
         ∙ ap (λ (x : ℕ). laid p i ++ (membersOf p x ∷ [])) (sym at)
 
     pub laying-room : end + length (membersOf p s) ≤ length members
@@ -347,7 +364,7 @@ module _
           h .ends,
           h .rooms .in-members,
           rows-end (h .rows),
-          laid-members p few sound (i + 1),
+          laid-members p few links (i + 1),
           ap (λ (xss : List (List ℕ)). length (flatten xss)) next,
           ap length (flatten-snoc (laid p i) (membersOf p s)),
           length-append (flatten (laid p i)) (membersOf p s),
@@ -373,5 +390,5 @@ module _
         → Laying p (laid p (i + 1)) members′ (set bounds (count + 1) e) firsts′ ups′ places′ seen′ (count + 1) e
     laying-more {members′} {firsts′} {ups′} {places′} {seen′} {e} u =
         subst (λ (parts : List (List ℕ)). Laying p parts members′ (set bounds (count + 1) e) firsts′ ups′ places′ seen′ (count + 1) e) (sym next)
-        (more few sound h u laying-taken (laid-apart p few sound i s laying-taken (sym (h .known s) ∙ new))
+        (more few links h u laying-taken (laid-apart p few links i s laying-taken (sym (h .known s) ∙ new))
         (omega (arith, u .total, laying-room)) laying-bound)

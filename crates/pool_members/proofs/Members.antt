@@ -32,7 +32,7 @@ use Rattle.depgraph.proofs.Theorems.{cyclic-is}
 use Rattle.pool_table.specs.Pool.{Pool, slotCount, isOccupied, occupied, entries}
 use Rattle.pool_table.specs.Ranges.{limitsInRange}
 use Rattle.pool_table.specs.Links.{isParent, itself, inCluster, countOf}
-use Rattle.pool_table.specs.WellFormed.{acyclic, isWithin, clustersWithin}
+use Rattle.pool_table.specs.WellFormed.{linksMutual, acyclic, isWithin, clustersWithin}
 use Rattle.pool_table.proofs.Rows.{slot-past}
 use Rattle.pool_links.proofs.Mutual.{parent-parts, occupied-in}
 use Rattle.pool_rules.proofs.Sound.{Sound}
@@ -91,7 +91,7 @@ pub parents-fit : (p : Pool) (ms : List ℕ) (s : ℕ) → parentsOf p ms s < 2 
 unfolding parentsOf
 parents-fit p ms s = word-fits (λ j. ltb j (length ms) && isParent p s (getD ms j 0)) positions 0
 
--- ---- in a sound pool
+-- ---- where links are mutual, and no chain of parents closes on itself
 
 -- chains of parents stay in the pool, and none closes on itself
 pub parents-bounded : (p : Pool) → Bounded (isParent p) (slotCount p)
@@ -119,12 +119,12 @@ pub record Cluster (p : Pool) (ms : List ℕ) : Type 0 where
 abbrev leads : Pool → List ℕ
 leads p = only (λ s. eqb s (leadOf p s)) (slotsByTxid p)
 
-module _ (p : Pool) (few : slotCount p ≤ capacity) (sound : Sound p) where
+module _ (p : Pool) (few : slotCount p ≤ capacity) (links : linksMutual p ≡ true) where
   -- two slots of one cluster have the same members
   pub members-same : (s x : ℕ) → inCluster p s x ≡ true → membersOf p x ≡ membersOf p s
   unfolding membersOf
   members-same s x h =
-      only-ext (inCluster p x) (inCluster p s) (slotsByTxid p) (λ i _. sym (cluster-same p few (sound .links) s x h i))
+      only-ext (inCluster p x) (inCluster p s) (slotsByTxid p) (λ i _. sym (cluster-same p few links s x h i))
 
   module _ (s : ℕ) (taken : occupied p s ≡ true) where
     pub own-member : elem s (membersOf p s) ≡ true
@@ -136,76 +136,16 @@ module _ (p : Pool) (few : slotCount p ≤ capacity) (sound : Sound p) where
         once-count (slotCount p) (membersOf p s)
         (record { below = λ i m. occupied-in p i (member-parts p s i m .0); once = members-once p s })
         ∙ count-ext (λ i. elem i (membersOf p s)) (inCluster p s) (slotCount p) 0
-        (λ i _ _. member-is p s i ∙ asked (occupied p i) (inCluster p s i) (cluster-occupied p few (sound .links) s i taken))
+        (λ i _ _. member-is p s i ∙ asked (occupied p i) (inCluster p s i) (cluster-occupied p few links s i taken))
 
-    -- as many as the pool's limit allows, so no more than a set of positions can hold
-    pub members-limit : length (membersOf p s) ≤ p .limits .count
-    unfolding clustersWithin isWithin
-    members-limit =
-        let f : ℕ → Bool = λ s. not (occupied p s) || isWithin p (inCluster p s) in
-        let w = all-at f (slotCount p) 0 (sound .within) s (omega arith) (omega (arith, occupied-in p s taken)) in
-        let m : leb (countOf p (inCluster p s)) (p .limits .count) ≡ true =
-        and-both _ _ (given (occupied p s) (isWithin p (inCluster p s)) taken w) .0 in
-        omega (arith, members-count, leb-true (countOf p (inCluster p s)) (p .limits .count) m)
-      where
-        given : (b c : Bool) → b ≡ true → (not b || c) ≡ true → c ≡ true
-        given true c e h = h
-        given false c e h = clash e refl
-
-    pub members-few : length (membersOf p s) ≤ positions
-    unfolding limitsInRange
-    members-few =
-        let l = and-both _ _ (sound .limits) .0 in
+    -- within the limits they are no more than a set of positions can hold
+    pub within-few : limitsInRange (p .limits) ≡ true → isWithin p (inCluster p s) ≡ true → length (membersOf p s) ≤ positions
+    unfolding limitsInRange isWithin
+    within-few ranges within =
+        let l = and-both _ _ ranges .0 in
         let m = leb-true (p .limits .count) 64 (and-both (leb 1 (p .limits .count)) (leb (p .limits .count) 64) l .1) in
-        omega (arith, members-limit)
-
-    -- the parents of a member, as positions upwards, are its parents by txid
-    pub parents-by-txid : (x : ℕ) → elem x (membersOf p s) ≡ true
-        → map (λ j. getD (membersOf p s) j 0) (members (record { word = parentsOf p (membersOf p s) x })) ≡ only (isParent p x) (slotsByTxid p)
-    unfolding membersOf
-    parents-by-txid x m =
-        parents-only p (membersOf p s) members-few x
-        ∙ only-within (isParent p x) (inCluster p s) (slotsByTxid p)
-        (λ i e. cluster-same p few (sound .links) s x (member-parts p s x m .1) i ∙ parent-cluster p x i e)
-
-    -- parents by position, as module 3 reads them: no slot is its own parent
-    pub position-parent : (i j : ℕ) → graph.isParent (map (parentsOf p (membersOf p s)) (membersOf p s)) i j
-        ≡ ((ltb i (length (membersOf p s)) && ltb j (length (membersOf p s))) && isParent p (getD (membersOf p s) i 0) (getD (membersOf p s) j 0))
-    unfolding graph.isParent setAt
-    position-parent i j =
-        let ms = membersOf p s in
-        let ps = map (parentsOf p ms) ms in
-        let x = getD ms i 0 in
-        let y = getD ms j 0 in
-        ⊎-elim
-        (λ (l : i < length ms).
-        ap₂ (λ (n w : ℕ). (ltb j n && not (eqb j i)) && mem (record { word = w }) j)
-        (length-map ms (parentsOf p ms)) (getD-map (parentsOf p ms) ms i 0 0 l)
-        ∙ ap (λ (b : Bool). (ltb j (length ms) && not (eqb j i)) && b) (parent-has p ms members-few x j)
-        ∙ twice (ltb j (length ms)) (eqb j i) (isParent p x y)
-        (λ e. ap (λ (k : ℕ). isParent p x (getD ms k 0)) (eqb-true j i e) ∙ no-own-parent p sound x)
-        ∙ ap (λ (b : Bool). (b && ltb j (length ms)) && isParent p x y) (sym (lt-ltb i (length ms) l)))
-        (λ (l : length ms ≤ i).
-        ap (λ (b : Bool). (ltb j (length ps) && not (eqb j i)) && b) (at-past ps i j (omega (arith, length-map ms (parentsOf p ms))))
-        ∙ and-false (ltb j (length ps) && not (eqb j i))
-        ∙ ap (λ (b : Bool). (b && ltb j (length ms)) && isParent p x y) (sym (le-ltb i (length ms) l)))
-        (lt-or-ge i (length ms))
-      where
-        twice : (a b c : Bool) → (b ≡ true → c ≡ false) → ((a && not b) && (a && c)) ≡ (a && c)
-        twice true true c h = sym (h refl)
-        twice true false c h = refl
-        twice false b c h = refl
-
-    pub position-acyclic : graph.isCyclic (map (parentsOf p (membersOf p s)) (membersOf p s)) ≡ false
-    position-acyclic =
-        let ms = membersOf p s in
-        let ps = map (parentsOf p ms) ms in
-        is-false (graph.isCyclic ps) (λ e.
-        absurd
-        (no-way (parents-bounded p) (no-cycle p sound)
-        (way-carried (λ i. getD ms i 0)
-        (λ i a h. and-right (ltb i (length ms) && ltb a (length ms)) _ (sym (position-parent i a) ∙ h))
-        (cyclic-is ps e .2))))
+        let k = and-both (leb (countOf p (inCluster p s)) (p .limits .count)) _ within .0 in
+        omega (arith, members-count, leb-true (countOf p (inCluster p s)) (p .limits .count) k)
 
   -- ---- the clusters of the pool
 
@@ -300,3 +240,65 @@ module _ (p : Pool) (few : slotCount p ≤ capacity) (sound : Sound p) where
 
   pub heads-once : distinct (map (λ ms. getD ms 0 0) (clusters p)) ≡ true
   heads-once = ap distinct clusters-heads ∙ distinct-only (λ s. eqb s (leadOf p s)) (slotsByTxid p) (slots-once p)
+
+-- ---- in a sound pool
+
+module _ (p : Pool) (few : slotCount p ≤ capacity) (sound : Sound p) (s : ℕ) (taken : occupied p s ≡ true) where
+  pub members-few : length (membersOf p s) ≤ positions
+  unfolding clustersWithin
+  members-few =
+      let f : ℕ → Bool = λ s. not (occupied p s) || isWithin p (inCluster p s) in
+      let w = all-at f (slotCount p) 0 (sound .within) s (omega arith) (omega (arith, occupied-in p s taken)) in
+      within-few p few (sound .links) s taken (sound .limits) (given (occupied p s) (isWithin p (inCluster p s)) taken w)
+    where
+      given : (b c : Bool) → b ≡ true → (not b || c) ≡ true → c ≡ true
+      given true c e h = h
+      given false c e h = clash e refl
+
+  -- the parents of a member, as positions upwards, are its parents by txid
+  pub parents-by-txid : (x : ℕ) → elem x (membersOf p s) ≡ true
+      → map (λ j. getD (membersOf p s) j 0) (members (record { word = parentsOf p (membersOf p s) x })) ≡ only (isParent p x) (slotsByTxid p)
+  unfolding membersOf
+  parents-by-txid x m =
+      parents-only p (membersOf p s) members-few x
+      ∙ only-within (isParent p x) (inCluster p s) (slotsByTxid p)
+      (λ i e. cluster-same p few (sound .links) s x (member-parts p s x m .1) i ∙ parent-cluster p x i e)
+
+  -- parents by position, as module 3 reads them: no slot is its own parent
+  pub position-parent : (i j : ℕ) → graph.isParent (map (parentsOf p (membersOf p s)) (membersOf p s)) i j
+      ≡ ((ltb i (length (membersOf p s)) && ltb j (length (membersOf p s))) && isParent p (getD (membersOf p s) i 0) (getD (membersOf p s) j 0))
+  unfolding graph.isParent setAt
+  position-parent i j =
+      let ms = membersOf p s in
+      let ps = map (parentsOf p ms) ms in
+      let x = getD ms i 0 in
+      let y = getD ms j 0 in
+      ⊎-elim
+      (λ (l : i < length ms).
+      ap₂ (λ (n w : ℕ). (ltb j n && not (eqb j i)) && mem (record { word = w }) j)
+      (length-map ms (parentsOf p ms)) (getD-map (parentsOf p ms) ms i 0 0 l)
+      ∙ ap (λ (b : Bool). (ltb j (length ms) && not (eqb j i)) && b) (parent-has p ms members-few x j)
+      ∙ twice (ltb j (length ms)) (eqb j i) (isParent p x y)
+      (λ e. ap (λ (k : ℕ). isParent p x (getD ms k 0)) (eqb-true j i e) ∙ no-own-parent p sound x)
+      ∙ ap (λ (b : Bool). (b && ltb j (length ms)) && isParent p x y) (sym (lt-ltb i (length ms) l)))
+      (λ (l : length ms ≤ i).
+      ap (λ (b : Bool). (ltb j (length ps) && not (eqb j i)) && b) (at-past ps i j (omega (arith, length-map ms (parentsOf p ms))))
+      ∙ and-false (ltb j (length ps) && not (eqb j i))
+      ∙ ap (λ (b : Bool). (b && ltb j (length ms)) && isParent p x y) (sym (le-ltb i (length ms) l)))
+      (lt-or-ge i (length ms))
+    where
+      twice : (a b c : Bool) → (b ≡ true → c ≡ false) → ((a && not b) && (a && c)) ≡ (a && c)
+      twice true true c h = sym (h refl)
+      twice true false c h = refl
+      twice false b c h = refl
+
+  pub position-acyclic : graph.isCyclic (map (parentsOf p (membersOf p s)) (membersOf p s)) ≡ false
+  position-acyclic =
+      let ms = membersOf p s in
+      let ps = map (parentsOf p ms) ms in
+      is-false (graph.isCyclic ps) (λ e.
+      absurd
+      (no-way (parents-bounded p) (no-cycle p sound)
+      (way-carried (λ i. getD ms i 0)
+      (λ i a h. and-right (ltb i (length ms) && ltb a (length ms)) _ (sym (position-parent i a) ∙ h))
+      (cyclic-is ps e .2))))

@@ -8,7 +8,7 @@ use native.Mathlib.Nat.{add-zero, zero-add, not-suc-le-zero, le-of-suc-le-suc}
 use native.Mathlib.Omega.{arith}
 use lib.Dec.{eqb}
 use lib.ListN.{length, getD, take}
-use borrow.Author.Tests.{eqb-true, not-true}
+use borrow.Author.Tests.{eq-eqb, eqb-true, not-true}
 use Rattle.lists.specs.Below.{keepIf, bit, countFrom, listFrom}
 use Rattle.lists.specs.Lists.{anyOf, only, elem, distinct}
 use Rattle.lists.proofs.Bools.{clash, and-both, cases, is-false}
@@ -60,6 +60,31 @@ only-within f g (x ∷ xs) h = kept (g x) refl ∙ ap (keepIf (f x) x) (only-wit
     kept : (b : Bool) → g x ≡ b → only f (keepIf b x (only g xs)) ≡ keepIf (f x) x (only f (only g xs))
     kept true e = refl
     kept false e = ap (λ (c : Bool). keepIf c x (only f (only g xs))) (sym (is-false (f x) (λ q. clash (h x q) e)))
+
+only-none : (f : ℕ → Bool) (xs : List ℕ) → ((i : ℕ) → elem i xs ≡ true → f i ≡ false) → only f xs ≡ []
+unfolding only
+only-none f [] h = refl
+only-none f (x ∷ xs) h =
+    ap₂ (λ (b : Bool) (l : List ℕ). keepIf b x l) (h x (elem-head x xs)) (only-none f xs (λ i m. h i (elem-tail i x xs m)))
+
+-- a property of one number, which stands in the list once
+pub only-one : (f : ℕ → Bool) (s : ℕ) (xs : List ℕ) → ((i : ℕ) → f i ≡ eqb i s) → distinct xs ≡ true → elem s xs ≡ true → only f xs ≡ s ∷ []
+unfolding only distinct elem anyOf
+only-one f s [] e d m = clash m refl
+only-one f s (x ∷ xs) e d m =
+    let b = and-both (not (elem x xs)) (distinct xs) d in
+    let out : (i : ℕ) → i ≡ x → elem i xs ≡ true → f i ≡ false =
+    λ i z q. clash (ap (λ (j : ℕ). elem j xs) (sym z) ∙ q) (not-true (elem x xs) (b .0)) in
+    ⊎-elim
+    (λ (z : s ≡ x).
+    ap₂ (λ (b : Bool) (l : List ℕ). keepIf b x l) (e x ∙ eq-eqb x s (sym z))
+    (only-none f xs (λ i q. is-false (f i) (λ w. out i (eqb-true i s (sym (e i) ∙ w) ∙ z) q)))
+    ∙ ap (λ (j : ℕ). j ∷ []) (sym z))
+    (λ (q : elem s xs ≡ true).
+    ap₂ (λ (b : Bool) (l : List ℕ). keepIf b x l)
+    (is-false (f x) (λ w. clash (ap (λ (j : ℕ). elem j xs) (eqb-true x s (sym (e x) ∙ w)) ∙ q) (not-true (elem x xs) (b .0))))
+    (only-one f s xs e (b .1) q))
+    (in-cons s x xs m)
 
 pub length-only : (f : ℕ → Bool) (xs : List ℕ) → length (only f xs) ≤ length xs
 unfolding only

@@ -32,7 +32,14 @@ part-same l l′ e m n h w =
 pub row-lent : (at : ℕ) (row old : List ℕ) → at + length row ≤ length old → length row ≤ length (take (length old - at) (drop at old))
 row-lent at row old fits = simp (length-take, length-drop) (omega arith)
 
--- and came back with the row at that place
+-- and is as long as it was when it comes back
+pub back-long : (at : ℕ) (part old : List ℕ) → at ≤ length old → length part ≡ length (take (length old - at) (drop at old))
+    → length (back at (length old - at) part old) ≡ length old
+back-long at part old l e =
+    let many : length part ≡ length old - at = omega (arith, e, length-take (length old - at) (drop at old), length-drop at old) in
+    simp (length-append, length-take, length-drop) (omega arith)
+
+-- with the row at that place
 module _
     (at : ℕ)
     (row part old : List ℕ)
@@ -41,16 +48,9 @@ module _
   pub row-long : length (back at (length old - at) part old) ≡ length old
   row-long =
       let lent = take (length old - at) (drop at old) in
-      let many : length part ≡ length old - at =
-      omega (
-        arith,
-        ap length written,
-        length-append row (drop (length row) lent),
-        length-drop (length row) lent,
-        length-take (length old - at) (drop at old),
-        length-drop at old,
-      ) in
-      simp (length-append, length-take, length-drop) (omega arith)
+      let many : length part ≡ length lent =
+      omega (arith, ap length written, length-append row (drop (length row) lent), length-drop (length row) lent, row-lent at row old fits) in
+      back-long at part old (omega arith) many
 
   pub row-kept : take at (back at (length old - at) part old) ≡ take at old
   row-kept = take-at (take at old) (part ++ drop (length old - at) (drop at old)) at (length-take-le at old (omega arith))

@@ -7,8 +7,9 @@ ghost use Prim.Native.Nat.{_<_};
 ghost use lib.ListN.{length};
 ghost use Rattle.pool_table.specs.Pool.{slotCount};
 ghost use Rattle.pool_table.specs.Words.{poolOf};
-ghost use Rattle.pool_table.specs.WellFormed.{wellFormed};
+ghost use Rattle.pool_table.specs.WellFormed.{clustersWithin};
 ghost use Rattle.pool_order.specs.Order.{slotsByTxid, standsIn};
+ghost use Rattle.pool_check.specs.Linked.{Linked};
 ghost use Rattle.pool_members.specs.Layout.{LaidOut};
 ghost use Rattle.pool_members.specs.Steps.{Ranked, Rooms};
 
@@ -60,7 +61,7 @@ pub fn lay_out(
     ) {
         return none;
     }
-    let sorted = pool_check::sort_well_formed(table, ups, spare);
+    let sorted = pool_check::sort_linked(table, ups, spare);
     if !sorted.stands {
         return none;
     }
@@ -68,7 +69,7 @@ pub fn lay_out(
     listing::unpack_all(&ups[..n], order);
     listing::rank_all(&order[..n], ranks);
     bounds[0] = 0;
-    let count = lay_by_txid(
+    lay_by_txid(
         table,
         &order[..n],
         ranks,
@@ -77,14 +78,11 @@ pub fn lay_out(
         bounds,
         firsts,
         ups,
-    );
-    Layout {
-        stands: true,
-        count,
-    }
+    )
 }
 
-// Walks the slots by txid: one that was not seen in a cluster before has the least txid of its own.
+// Walks the slots by txid: one that was not seen in a cluster before has the least txid of its own. Each cluster is held against the limits as
+// it is found, so that none is searched for twice.
 fn lay_by_txid(
     table: &[u64],
     order: &[usize],
@@ -94,12 +92,14 @@ fn lay_by_txid(
     bounds: &mut [usize],
     firsts: &mut [usize],
     ups: &mut [u64],
-) -> usize
-    requires { ⌜ wellFormed (now table) ≡ true ⌝ }
+) -> Layout
+    requires { ⌜ Linked (now table) ⌝ }
     requires { ⌜ now order ≡ slotsByTxid (poolOf (now table)) ⌝ }
     requires { ⌜ (slotCount (poolOf (now table)) < length (now ranks)) × Ranked (now order) (now ranks) ⌝ }
     requires { ⌜ Rooms (poolOf (now table)) (now members) (now bounds) (now firsts) (now ups) (now places) ⌝ }
-    ensures { λ r. ⌜ LaidOut (poolOf (now (table .entry))) r (now (members .exit)) (now (bounds .exit)) (now (firsts .exit)) (now (ups .exit)) ⌝ }
+    ensures { λ r. ⌜ r .stands ≡ clustersWithin (poolOf (now (table .entry))) ⌝ }
+    ensures { λ r. ⌜ (r .stands ≡ true → LaidOut (poolOf (now (table .entry))) (r .count)
+        (now (members .exit)) (now (bounds .exit)) (now (firsts .exit)) (now (ups .exit))) ⌝ }
 {
     let mut seen = [0u64; 16];
     let mut count: usize = 0;
@@ -113,11 +113,20 @@ fn lay_by_txid(
             continue;
         }
         let k = listing::list_cluster(table, s, order, ranks, &mut seen, &mut members[end..]);
+        if k == 0 {
+            return Layout {
+                stands: false,
+                count: 0,
+            };
+        }
         let next = end + k;
         parents::note_all(table, &members[end..next], end, places, firsts, ups);
         count += 1;
         end = next;
         bounds[count] = end;
     }
-    count
+    Layout {
+        stands: true,
+        count,
+    }
 }

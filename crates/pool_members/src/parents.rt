@@ -6,7 +6,7 @@ ghost use lib.ListN.{length, getD};
 ghost use Rattle.txset.specs.Sets.{mem, isPosition, hasIn};
 ghost use Rattle.pool_table.specs.Pool.{slotAt, slotCount};
 ghost use Rattle.pool_table.specs.Words.{poolOf};
-ghost use Rattle.pool_table.specs.WellFormed.{wellFormed};
+ghost use Rattle.pool_check.specs.Linked.{Linked};
 ghost use Rattle.pool_members.specs.Members.{parentsOf};
 ghost use Rattle.pool_members.specs.Steps.{StoredAt, Within, isRank, Closed};
 use crate::listing::rank_all;
@@ -26,7 +26,7 @@ pub fn note_all(
     firsts: &mut [usize],
     ups: &mut [u64],
 )
-    requires { ⌜ wellFormed (now table) ≡ true ⌝ }
+    requires { ⌜ Linked (now table) ⌝ }
     requires { ⌜ Closed (poolOf (now table)) (now members) ⌝ }
     requires { ⌜ (slotCount (poolOf (now table)) < length (now places)) ⌝ }
     requires { ⌜ (slotCount (poolOf (now table)) < length (now firsts)) × (slotCount (poolOf (now table)) < length (now ups)) ⌝ }

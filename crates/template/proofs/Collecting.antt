@@ -94,7 +94,7 @@ module _ {p : Pool} {flat firsts ups : List ℕ} (h : Laid p flat firsts ups) (s
       map-each (memberAt flat firsts s) (λ j. getD (membersOf p s) j 0) (members (setAt ups s))
       (λ j e. place-is j (named j (sym (members-elem (setAt ups s) j) ∙ e) .0))
       ∙ ap (λ (x : TxSet). map (λ j. getD (membersOf p s) j 0) (members x)) word
-      ∙ parents-by-txid p (h .few) (laid-sound h) s o s (own-member p (h .few) (laid-sound h) s o)
+      ∙ parents-by-txid p (h .few) (laid-sound h) s o s (own-member p (h .few) (laid-sound h .links) s o)
 
 -- ---- what is selected
 

@@ -1,16 +1,14 @@
-use mathlib.Core.Path.{_≡_, sym, ap, _∙_}
+use mathlib.Core.Path.{_≡_, _∙_}
 use Prim.Native.Nat.{ℕ}
 use native.Mathlib.Omega.{arith}
 use lib.Dec.{eqb}
 use borrow.Author.Needs.{needs}
 use Rattle.txset.specs.Sets.{hasIn}
 use Rattle.txset.proofs.Words.{hasIn-zeros}
-use Rattle.weights.specs.declared.RawWeight.{RawWeight}
 use Rattle.pool_table.specs.Words.{poolOf}
 use Rattle.pool_clusters.proofs.Words.{seed-one}
-use Rattle.pool_clusters.proofs.Linked.{linked-none}
 use Rattle.pool_clusters.proofs.Gathering.{slots-few}
-use Rattle.pool_clusters.proofs.Limits.{gathered-same, of-one, lone}
+use Rattle.pool_clusters.proofs.Limits.{gathered-same, of-one}
 use Rattle.pool_clusters.proofs.cluster.Statement.{statement}
 use Rattle.pool_clusters.proofs.cluster.Tie as tie
 
@@ -23,29 +21,10 @@ seed c i =
 
 returns : tie.Need-returns
 returns c =
-    let insert = c .before .before .before .before .before in
+    let insert = c .before .before .before in
     let start = insert .before .before .before .before in
     let p = poolOf (start .args .table .now) in
     gathered-same p _ _ (of-one p _ (start .args .a) (start .pre .1) (seed insert)) (c .gather .ensures)
 
-returns-2 : tie.Need-returns-2
-returns-2 c =
-    let else = c .before in
-    let insert = else .before .before .before in
-    let start = insert .before .before .before .before in
-    let p = poolOf (start .args .table .now) in
-    lone p (start .args .a) (start .pre .1) (linked-none p (start .args .a) (sym (else .before .is-linked .ensures) ∙ else .if1 .left)) (start .args .limit)
-    (insert .insert .last .0) (c .weight .result) (seed insert) (ap (λ (w : RawWeight). w .0) (c .weight .ensures)) (search needs)
-
 pub cluster-spec : {M : Type 1} → statement M
-cluster-spec =
-    tie.close
-    (tie.spec
-    (λ c. search needs)
-    (λ c κs. search needs)
-    (λ c κs. search needs)
-    (λ c. search needs)
-    (λ c κs. search needs)
-    returns
-    (λ c κs. search needs)
-    returns-2)
+cluster-spec = tie.close (tie.spec (λ c. search needs) (λ c κs. search needs) (λ c. search needs) (λ c κs. search needs) returns)

@@ -7,18 +7,15 @@ use lib.ListN.{length}
 use borrow.Author.Tests.{not-true, not-false}
 use borrow.Author.Needs.{needs}
 use Rattle.txset.proofs.Words.{hasIn-zeros}
-use Rattle.slotsets.specs.SlotSets.{capacity}
-use Rattle.weights.specs.declared.RawWeight.{RawWeight}
 use Rattle.pool_table.specs.declared.Limits.{Limits}
-use Rattle.pool_table.specs.Pool.{Pool, slotAt, slotCount, occupied}
+use Rattle.pool_table.specs.Pool.{Pool, slotCount, occupied}
 use Rattle.pool_table.specs.Words.{isLegal, poolOf}
 use Rattle.pool_table.specs.Ranges.{limitsInRange}
-use Rattle.pool_table.specs.Links.{hasLinks, inCluster}
+use Rattle.pool_table.specs.Links.{inCluster}
 use Rattle.pool_table.specs.WellFormed.{isWithin, clustersWithin}
-use Rattle.pool_table.proofs.Legal.{few-slots}
 use Rattle.pool_clusters.specs.Clusters.{Gathered}
 use Rattle.pool_clusters.proofs.Words.{all-slots}
-use Rattle.pool_clusters.proofs.Limits.{size-small, too-many, too-heavy, stands, lone-heavy, lone-stands, Walked, walk-start, walk-free, walk-within, walk-seen, walk-turn, walk-done, walk-fails}
+use Rattle.pool_clusters.proofs.Limits.{size-small, too-many, too-heavy, stands, lone-within, Walked, walk-start, walk-free, walk-within, walk-seen, walk-turn, walk-done, walk-fails}
 use Rattle.pool_clusters.proofs.clusters_stand.Statement.{statement}
 use Rattle.pool_clusters.proofs.clusters_stand.Tie as tie
 
@@ -115,41 +112,32 @@ lone-head c = turn-of c .before .before
 abbrev lone-pool : tie.Then6 Inv-loop μ-loop → Pool
 lone-pool c = pool-of (lone-head c .before)
 
-few : (c : tie.Then6 Inv-loop μ-loop) → lone-head c .loop .next < capacity
-few c = omega (arith, below (turn-of c), few-slots (table-of (lone-head c .before)) (legal (lone-head c .before)))
-
-unlinked : (c : tie.Then6 Inv-loop μ-loop) → hasLinks (slotAt (lone-pool c) (lone-head c .loop .next)) ≡ false
-unlinked c = sym (c .before .is-linked .ensures) ∙ not-true (c .before .is-linked .result) (c .if6 .taken)
-
-mul-if7 : tie.Need-mul-if7 Inv-loop μ-loop
-mul-if7 c =
-    let b = lone-head (c .before) .before in
-    omega (arith, ap (λ (l : Limits). l .size) (limits-are b), size-small (pool-of b .limits) (ranged b))
+-- it is within the limits by its own weight
+alone : (c : tie.After-alone-within Inv-loop μ-loop)
+    → isWithin (lone-pool (c .before)) (inCluster (lone-pool (c .before)) (lone-head (c .before) .loop .next)) ≡ c .alone-within .result
+alone c =
+    let lone = c .before in
+    let linked = lone .before in
+    lone-within (lone-pool lone) (lone-head lone .loop .next) (below (turn-of lone))
+    (sym (linked .is-linked .ensures) ∙ not-true (linked .is-linked .result) (lone .if6 .taken))
+    (ranged (lone-head lone .before))
+    ∙ sym (c .alone-within .ensures)
 
 returns-3 : tie.Need-returns-3 Inv-loop μ-loop
 returns-3 c =
-    let weight = c .before .before in
-    let lone = weight .before .before in
-    let b = lone-head lone .before in
-    let else = turn-of lone in
-    answer b false
-    (walk-fails (lone-pool lone) (lone-head lone .loop .next) (below else)
-    (let occupied = lone .before .before .before .before .before in sym (occupied .before .is-occupied .ensures) ∙ not-false (occupied .before .is-occupied .result) (occupied .if4 .left))
-    (lone-heavy (lone-pool lone) (lone-head lone .loop .next) (below else) (few lone) (ranged b) (unlinked lone) (weight .weight .result)
-    (ap (λ (w : RawWeight). w .0) (weight .weight .ensures))
-    (search needs)
-    (omega (arith, c .if7 .taken, ap (λ (l : Limits). l .size) (limits-are b)))))
+    let lone = c .before .before in
+    let turn = turn-of lone in
+    let used = lone .before .before .before .before .before in
+    answer (lone-head lone .before) false
+    (walk-fails (lone-pool lone) (lone-head lone .loop .next) (below turn)
+    (sym (used .before .is-occupied .ensures) ∙ not-false (used .before .is-occupied .result) (used .if4 .left))
+    (alone (c .before) ∙ not-true (c .before .alone-within .result) (c .if7 .taken)))
 
 loop-again-3 : tie.Need-loop-again-3 Inv-loop μ-loop
 loop-again-3 c =
-    let weight = c .before .before in
-    let lone = weight .before .before in
-    let b = lone-head lone .before in
+    let lone = c .before .before in
     walk-within (lone-head lone .loop .inv) (below (turn-of lone))
-    (lone-stands (lone-pool lone) (lone-head lone .loop .next) (below (turn-of lone)) (few lone) (ranged b) (unlinked lone) (weight .weight .result)
-    (ap (λ (w : RawWeight). w .0) (weight .weight .ensures))
-    (search needs)
-    (omega (arith, c .if7 .left, ap (λ (l : Limits). l .size) (limits-are b))))
+    (alone (c .before) ∙ not-false (c .before .alone-within .result) (c .if7 .left))
 
 cluster-requires : tie.Need-cluster-requires Inv-loop μ-loop
 cluster-requires c κs =
@@ -219,7 +207,6 @@ clusters-stand-spec =
     (λ c. search needs)
     loop-again-2
     (λ c κs. search needs)
-    mul-if7
     (λ c κs. search needs)
     returns-3
     (λ c. search needs)

@@ -1,4 +1,4 @@
-use mathlib.Core.Path.{_≡_, refl, ap, ap₂, _∙_}
+use mathlib.Core.Path.{_≡_, refl, ap, _∙_}
 use mathlib.Core.Bool.{Bool, not, _&&_, _||_}
 use Prim.Native.Nat.{_+_, _-_, _≤_, min}
 use native.Mathlib.Omega.{arith}
@@ -10,6 +10,7 @@ use Rattle.weights.specs.Weights.{most}
 use Rattle.weights.specs.declared.RawWeight.{RawWeight}
 use Rattle.pool_table.specs.Pool.{slotCount}
 use Rattle.pool_table.specs.Words.{poolOf}
+use Rattle.pool_table.specs.Links.{isLinked}
 use Rattle.pool_clusters.proofs.Gathering.{Gathering, Turned, gather-start, gather-turn, gather-less, gather-all, gather-more, slots-few}
 use Rattle.pool_clusters.proofs.gather.Statement.{statement}
 use Rattle.pool_clusters.proofs.gather.Tie as tie
@@ -25,7 +26,7 @@ start-of head = head .before .before .before .before .before
 
 -- the two sets were given the links of the lowest member
 abbrev lowest-of : tie.After-spread Inv-loop μ-loop → tie.After-lowest Inv-loop μ-loop
-lowest-of c = c .before .before .before .before .before .before .before .before .before .before
+lowest-of c = c .before .before .before .before .before .before .before .before
 
 abbrev head-of : tie.After-spread Inv-loop μ-loop → tie.At-loop Inv-loop μ-loop
 head-of c = lowest-of c .before .before
@@ -36,10 +37,9 @@ few head =
 
 turned : (c : tie.After-spread Inv-loop μ-loop)
     → Turned (poolOf (start-of (head-of c) .args .table .now)) (lowest-of c .lowest .result) (head-of c .loop .found) (head-of c .loop .todo)
-    (c .spread .last .1 .0) (c .spread .last .1 .1 .0)
+    (c .spread .last .1 .1 .1 .0) (c .spread .last .1 .1 .1 .1 .0)
 turned c =
-    let near = c .before .before .before .before in
-    let remove = near .before .before in
+    let remove = c .before .before .before .before in
     let e = c .spread .ensures in
     let a = lowest-of c .lowest .result in
     let z : a ≡ lowestIn (head-of c .loop .todo) = lowest-of c .lowest .ensures in
@@ -47,9 +47,10 @@ turned c =
       here = ap (hasIn (head-of c .loop .todo)) z ∙ lowest-has (head-of c .loop .todo) (omega (arith, z, remove .before .before .before .if1 .left));
       wide = e .0 .0;
       long = e .0 .1;
-      grown = λ i. e .1 .0 i ∙ ap (λ (b : Bool). hasIn (head-of c .loop .found) i || b) (near .near .ensures i);
-      left = λ i. e .1 .1 i
-          ∙ ap₂ (λ (x y : Bool). x || (y && not (hasIn (head-of c .loop .found) i))) (remove .remove .ensures .1 i) (near .near .ensures i);
+      grown = e .1 .0;
+      left =
+          let p = poolOf (start-of (head-of c) .args .table .now) in
+          λ i. e .1 .1 i ∙ ap (λ (b : Bool). b || (isLinked p a i && not (hasIn (head-of c .loop .found) i))) (remove .remove .ensures .1 i);
     }
 
 loop-holds : tie.Need-loop-holds Inv-loop μ-loop
@@ -76,14 +77,14 @@ loop-less c =
 loop-again : tie.Need-loop-again Inv-loop μ-loop
 loop-again c =
     let spread = c .before .before .before .before in
-    gather-turn (head-of spread .loop .inv) (turned spread) (spread .before .before .before .before .before .before .before .before .if2 .left) (c .held-sum .result)
+    gather-turn (head-of spread .loop .inv) (turned spread) (spread .before .before .before .before .before .before .if2 .left) (c .held-sum .result)
     (c .held-sum .ensures ∙ ap (λ (w : RawWeight). min (head-of spread .loop .weight + w .0) most) (c .before .weight .ensures))
 
 spread-requires : tie.Need-spread-requires Inv-loop μ-loop
 spread-requires c κs =
-    let remove = c .before .before .before .before .before in
-    let inv = remove .before .before .before .before .before .before .loop .inv in
-    (search needs, inv .wide, remove .remove .ensures .0 ∙ inv .long)
+    let remove = c .before .before .before in
+    let head = remove .before .before .before .before .before .before in
+    (start-of head .pre, (head .loop .inv .wide, remove .remove .ensures .0 ∙ head .loop .inv .long))
 
 pub gather-spec : {M : Type 1} → statement M
 gather-spec =
@@ -99,8 +100,6 @@ gather-spec =
     returns-2
     (λ c. search needs)
     (λ c κs. search needs)
-    (λ c κs. start-of (c .before .before .before .before .before .before .before) .pre)
-    (λ c. search needs)
     (λ c. search needs)
     (λ c. search needs)
     spread-requires

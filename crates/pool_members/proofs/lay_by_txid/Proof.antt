@@ -1,6 +1,6 @@
 -- `lay_by_txid`: the clusters of the first i slots by txid are laid out. Assumes nothing.
 use mathlib.Core.Path.{_≡_, refl, sym, ap, _∙_, subst}
-use mathlib.Core.Bool.{true, false}
+use mathlib.Core.Bool.{true, false, false≢true}
 use mathlib.Core.List.{List}
 use Prim.Native.Nat.{ℕ, _+_, _-_, _≤_, _<_}
 use native.Mathlib.Omega.{arith}
@@ -11,15 +11,18 @@ use Rattle.txset.proofs.Words.{hasIn-zeros}
 use Rattle.slotsets.specs.SlotSets.{capacity}
 use Rattle.pool_table.specs.Pool.{Pool, slotCount, occupied}
 use Rattle.pool_table.specs.Words.{poolOf}
+use Rattle.pool_table.specs.WellFormed.{linksMutual}
 use Rattle.pool_table.proofs.Puts.{back}
-use Rattle.pool_rules.proofs.Sound.{Sound}
+use Rattle.pool_links.proofs.Mutual.{occupied-in}
+use Rattle.pool_clusters.proofs.Limits.{walk-fails}
 use Rattle.pool_order.specs.Order.{slotsByTxid}
 use Rattle.pool_members.specs.Members.{membersOf, parentsOf}
 use Rattle.pool_members.specs.Steps.{StoredAt, Closed}
-use Rattle.pool_members.proofs.Rows.{row-lent, row-long, row-kept, row-here}
-use Rattle.pool_members.proofs.Laid.{few, sound}
+use Rattle.pool_members.proofs.Members.{within-few}
+use Rattle.pool_members.proofs.Rows.{row-lent, back-long, row-long, row-kept, row-here}
+use Rattle.pool_members.proofs.Laid.{few}
 use Rattle.pool_members.proofs.Laying.{laid, Laying, members-closed, laying-start, laying-taken, laying-skip, laying-room, laying-few, laying-bound}
-use Rattle.pool_members.proofs.Laying.{laying-more, laying-done}
+use Rattle.pool_members.proofs.Laying.{laying-more, laying-within, laying-done}
 use Rattle.pool_members.proofs.lay_by_txid.Statement.{statement}
 use Rattle.pool_members.proofs.lay_by_txid.Tie as tie
 
@@ -54,8 +57,8 @@ slot c = getD (start (loopOf c) .args .order .now) (loopOf c .loop .i) 0
 few′ : (c : tie.After-contains Inv-loop μ-loop) → slotCount (poolAt c) ≤ capacity
 few′ c = few (start (loopOf c) .args .table .now) (start (loopOf c) .pre .0)
 
-sound′ : (c : tie.After-contains Inv-loop μ-loop) → Sound (poolAt c)
-sound′ c = sound (start (loopOf c) .args .table .now) (start (loopOf c) .pre .0)
+links : (c : tie.After-contains Inv-loop μ-loop) → linksMutual (poolAt c) ≡ true
+links c = start (loopOf c) .pre .0 .links
 
 in-order : (c : tie.After-contains Inv-loop μ-loop) → loopOf c .loop .i < length (slotsByTxid (poolAt c))
 in-order c = subst (λ (xs : List ℕ). loopOf c .loop .i < length xs) (start (loopOf c) .pre .1 .0) (c .before .before .before .loop-test .taken)
@@ -64,7 +67,7 @@ at-order : (c : tie.After-contains Inv-loop μ-loop) → slot c ≡ getD (slotsB
 at-order c = ap (λ (xs : List ℕ). getD xs (loopOf c .loop .i) 0) (start (loopOf c) .pre .1 .0)
 
 taken : (c : tie.After-contains Inv-loop μ-loop) → occupied (poolAt c) (slot c) ≡ true
-taken c = laying-taken (few′ c) (sound′ c) (loopOf c .loop .i) (in-order c) (slot c) (at-order c) (loopOf c .loop .inv .1)
+taken c = laying-taken (few′ c) (links c) (loopOf c .loop .i) (in-order c) (slot c) (at-order c) (loopOf c .loop .inv .1)
 
 new : (c : tie.Else1 Inv-loop μ-loop) → hasIn (loopOf (c .before) .loop .seen) (slot (c .before)) ≡ false
 new c = sym (c .before .contains .ensures) ∙ c .if1 .left
@@ -73,17 +76,17 @@ room : (c : tie.Else1 Inv-loop μ-loop)
     → loopOf (c .before) .loop .end + length (membersOf (poolAt (c .before)) (slot (c .before))) ≤ length (loopOf (c .before) .loop .members)
 room c =
     let d = c .before in
-    laying-room (few′ d) (sound′ d) (loopOf d .loop .i) (in-order d) (slot d) (at-order d) (loopOf d .loop .inv .1) (new c)
+    laying-room (few′ d) (links d) (loopOf d .loop .i) (in-order d) (slot d) (at-order d) (loopOf d .loop .inv .1) (new c)
 
 bound : (c : tie.Else1 Inv-loop μ-loop)
     → (loopOf (c .before) .loop .count + 1 < length (loopOf (c .before) .loop .bounds)) × (loopOf (c .before) .loop .count + 1 ≤ capacity)
 bound c =
     let d = c .before in (
-      laying-bound (few′ d) (sound′ d) (loopOf d .loop .i) (in-order d) (slot d) (at-order d) (loopOf d .loop .inv .1) (new c),
+      laying-bound (few′ d) (links d) (loopOf d .loop .i) (in-order d) (slot d) (at-order d) (loopOf d .loop .inv .1) (new c),
       omega (
         arith,
         few′ d,
-        laying-few (few′ d) (sound′ d) (loopOf d .loop .i) (in-order d) (slot d) (at-order d) (loopOf d .loop .inv .1) (new c),
+        laying-few (few′ d) (links d) (loopOf d .loop .i) (in-order d) (slot d) (at-order d) (loopOf d .loop .inv .1) (new c),
       ),
     )
 
@@ -100,21 +103,32 @@ listed c =
     let loop = loopOf (elseOf c) .loop in
     back (loop .end) (length (loop .members) - loop .end) (c .list-cluster .last .1 .1 .1 .1 .1 .0) (loop .members)
 
-listed-long : (c : tie.After-list-cluster Inv-loop μ-loop) → length (listed c) ≡ length (loopOf (elseOf c) .loop .members)
-listed-long c = row-long _ (membersAt c) _ _ (room (c .before .before .before)) (c .list-cluster .ensures .1 .0)
+-- one that is within the limits
+abbrev listAt : tie.Else2 Inv-loop μ-loop → tie.After-list-cluster Inv-loop μ-loop
+listAt c = c .before .before .before .before
 
-listed-here : (c : tie.After-list-cluster Inv-loop μ-loop)
-    → take (length (membersAt c)) (drop (loopOf (elseOf c) .loop .end) (listed c)) ≡ membersAt c
-listed-here c = row-here _ (membersAt c) _ _ (room (c .before .before .before)) (c .list-cluster .ensures .1 .0)
+some : (c : tie.Else2 Inv-loop μ-loop) → 0 < listAt c .list-cluster .result
+some c = omega (arith, c .if2 .left)
+
+many : (c : tie.Else2 Inv-loop μ-loop) → listAt c .list-cluster .result ≡ length (membersAt (listAt c))
+many c = listAt c .list-cluster .ensures .1 (some c) .many
+
+listed-long : (c : tie.Else2 Inv-loop μ-loop) → length (listed (listAt c)) ≡ length (loopOf (elseOf (listAt c)) .loop .members)
+listed-long c = row-long _ (membersAt (listAt c)) _ _ (room (listAt c .before .before .before)) (listAt c .list-cluster .ensures .1 (some c) .here)
+
+listed-here : (c : tie.Else2 Inv-loop μ-loop)
+    → take (length (membersAt (listAt c))) (drop (loopOf (elseOf (listAt c)) .loop .end) (listed (listAt c))) ≡ membersAt (listAt c)
+listed-here c = row-here _ (membersAt (listAt c)) _ _ (room (listAt c .before .before .before)) (listAt c .list-cluster .ensures .1 (some c) .here)
 
 -- what is lent to be noted
-part-is : (c : tie.After-list-cluster Inv-loop μ-loop)
-    → take (loopOf (elseOf c) .loop .end + c .list-cluster .result - loopOf (elseOf c) .loop .end) (drop (loopOf (elseOf c) .loop .end) (listed c))
-    ≡ membersAt c
+part-is : (c : tie.Else2 Inv-loop μ-loop)
+    → take (loopOf (elseOf (listAt c)) .loop .end + listAt c .list-cluster .result - loopOf (elseOf (listAt c)) .loop .end)
+    (drop (loopOf (elseOf (listAt c)) .loop .end) (listed (listAt c)))
+    ≡ membersAt (listAt c)
 part-is c =
-    let end = loopOf (elseOf c) .loop .end in
-    let e : end + c .list-cluster .result - end ≡ length (membersAt c) = omega (arith, c .list-cluster .ensures .0) in
-    ap (λ (n : ℕ). take n (drop end (listed c))) e ∙ listed-here c
+    let end = loopOf (elseOf (listAt c)) .loop .end in
+    let e : end + listAt c .list-cluster .result - end ≡ length (membersAt (listAt c)) = omega (arith, many c) in
+    ap (λ (n : ℕ). take n (drop end (listed (listAt c)))) e ∙ listed-here c
 
 -- ---- the needs
 
@@ -128,7 +142,7 @@ loop-again c =
     let d = c .before in
     let inv = loopOf d .loop .inv in (
       (omega arith),
-      laying-skip (few′ d) (sound′ d) (loopOf d .loop .i) (in-order d) (slot d) (at-order d) (inv .1)
+      laying-skip (few′ d) (links d) (loopOf d .loop .i) (in-order d) (slot d) (at-order d) (inv .1)
           (sym (d .contains .ensures) ∙ c .if1 .taken),
       inv .2,
       inv .3,
@@ -144,66 +158,97 @@ list-cluster-requires c κs =
     let fits = row-lent (loopOf d .loop .end) (membersOf (poolAt d) (slot d)) (loopOf d .loop .members) (room (c .before .before)) in
     ((st .pre .0, taken d), (st .pre .1 .0, (st .pre .1 .1 .0, (loopOf d .loop .inv .1 .seen-long, fits))))
 
+-- a cluster that passes a limit
+returns : tie.Need-returns Inv-loop μ-loop
+returns c =
+    let list = c .before .before .before .before in
+    let d = elseOf list in
+    let p = poolAt d in (
+      sym (walk-fails p (slot d) (occupied-in p (slot d) (taken d)) (taken d) (list .list-cluster .ensures .0 (omega (arith, c .if2 .taken)))),
+      λ e. absurd (false≢true e),
+    )
+
+-- the rooms are as long as they were
+kept : (c : tie.After-list-cluster Inv-loop μ-loop) → length (listed c) ≡ length (loopOf (elseOf c) .loop .members)
+kept c =
+    let loop = loopOf (elseOf c) .loop in
+    let l : loop .end ≤ length (loop .members) = omega (arith, room (c .before .before .before)) in
+    back-long (loop .end) (c .list-cluster .last .1 .1 .1 .1 .1 .0) (loop .members) l (c .list-cluster .kept .1 .1 .1 .1 .1 .0)
+
 part-note-all-end : tie.Need-part-note-all-end Inv-loop μ-loop
 part-note-all-end c =
-    let list = c .before .before .before .before in
-    omega (arith, room (list .before .before .before), list .list-cluster .ensures .0, listed-long list)
+    let else = c .before in
+    omega (arith, room (listAt else .before .before .before), many else, listed-long else)
+
+abbrev notedAt : tie.After-slice-known9 Inv-loop μ-loop → tie.After-note-all Inv-loop μ-loop
+notedAt c = c .before .before .before .before .before .before
+
+abbrev else2Of : tie.After-slice-known9 Inv-loop μ-loop → tie.Else2 Inv-loop μ-loop
+else2Of c = notedAt c .before .before .before .before .before .before
 
 abbrev elseAt : tie.After-slice-known9 Inv-loop μ-loop → tie.Else1 Inv-loop μ-loop
-elseAt c =
-    let note = c .before .before .before .before .before .before in
-    note .before .before .before .before .before .before .before .before .before .before .before .before
+elseAt c = listAt (else2Of c) .before .before .before
 
 note-all-requires : tie.Need-note-all-requires Inv-loop μ-loop
 note-all-requires c κs =
-    let list = c .before .before .before .before .before .before .before .before in
-    let d = elseOf list in
-    let h = loopOf d .loop .inv .1 in (
-      start (loopOf d) .pre .0,
+    let else = c .before .before .before .before .before in
+    let d = elseOf (listAt else) in
+    let h = loopOf d .loop .inv .1 in
+    let linked = start (loopOf d) .pre .0 in
+    let short =
+    within-few (poolAt d) (few′ d) (links d) (slot d) (taken d) (linked .limits) (listAt else .list-cluster .ensures .1 (some else) .good) in (
+      linked,
       (
-        subst (Closed (poolAt d)) (sym (part-is list)) (members-closed (poolAt d) (few′ d) (sound′ d) (slot d) (taken d)),
+        subst (Closed (poolAt d)) (sym (part-is else)) (members-closed (poolAt d) (few′ d) (links d) (slot d) (taken d) short),
         (h .rooms .in-places, (h .rooms .in-firsts, h .rooms .in-ups)),
       ),
     )
 
 loop-again-2 : tie.Need-loop-again-2 Inv-loop μ-loop
 loop-again-2 c =
-    let note = c .before .before .before .before .before .before in
-    let list = note .before .before .before .before .before .before .before .before .before in
+    let note = notedAt c in
+    let else = else2Of c in
+    let list = listAt else in
     let d = elseOf list in
     let p = poolAt d in
     let loop = loopOf d .loop in
+    let told = list .list-cluster .ensures .1 (some else) in
     let firsts = note .note-all .last .1 .1 .1 .1 .0 in
     let ups = note .note-all .last .1 .1 .1 .1 .1 .0 in (
       (omega arith),
-      laying-more (few′ d) (sound′ d) (loopOf d .loop .i) (in-order d) (slot d) (at-order d) (loopOf d .loop .inv .1)
+      laying-more (few′ d) (links d) (loopOf d .loop .i) (in-order d) (slot d) (at-order d) (loopOf d .loop .inv .1)
           (new (list .before .before .before))
           (record {
-            total = ap (λ (n : ℕ). loopOf d .loop .end + n) (list .list-cluster .ensures .0);
-            long = listed-long list;
-            kept = row-kept _ (membersAt list) _ _ (room (list .before .before .before)) (list .list-cluster .ensures .1 .0);
-            here = listed-here list;
-            starts = subst (λ (xs : List ℕ). StoredAt xs (λ k. loop .end) (loop .firsts) firsts) (part-is list) (note .note-all .ensures .0);
-            parents = subst (λ (xs : List ℕ). StoredAt xs (λ k. parentsOf p xs (getD xs k 0)) (loop .ups) ups) (part-is list) (note .note-all .ensures .1);
+            good = told .good;
+            total = ap (λ (n : ℕ). loopOf d .loop .end + n) (told .many);
+            long = listed-long else;
+            kept = row-kept _ (membersAt list) _ _ (room (list .before .before .before)) (told .here);
+            here = listed-here else;
+            starts = subst (λ (xs : List ℕ). StoredAt xs (λ k. loop .end) (loop .firsts) firsts) (part-is else) (note .note-all .ensures .0);
+            parents = subst (λ (xs : List ℕ). StoredAt xs (λ k. parentsOf p xs (getD xs k 0)) (loop .ups) ups) (part-is else) (note .note-all .ensures .1);
             places-long = note .note-all .kept .1 .1 .1 .0;
-            seen-long = list .list-cluster .ensures .1 .1 .0;
-            told = list .list-cluster .ensures .1 .1 .1;
+            seen-long = told .seen-long;
+            told = told .told;
           }),
       note .note-all .kept .1 .1 .1 .0 ∙ loop .inv .2,
-      listed-long list ∙ loop .inv .3,
+      listed-long else ∙ loop .inv .3,
       length-set (loop .bounds) (loop .count + 1) _ ∙ loop .inv .4,
       note .note-all .ensures .0 .long ∙ loop .inv .5,
       note .note-all .ensures .1 .long ∙ loop .inv .6,
     )
 
-returns : tie.Need-returns Inv-loop μ-loop
-returns c =
+returns-2 : tie.Need-returns-2 Inv-loop μ-loop
+returns-2 c =
     let loop = c .before in
     let st = start loop in
     let t = st .args .table .now in
     let l : length (slotsByTxid (poolOf t)) ≤ loop .loop .i =
     subst (λ (xs : List ℕ). length xs ≤ loop .loop .i) (st .pre .1 .0) (c .loop-test .left) in
-    laying-done (few t (st .pre .0)) (sound t (st .pre .0)) (loop .loop .i) l (loop .loop .inv .1)
+    let f = few t (st .pre .0) in
+    (sym (laying-within f (st .pre .0 .links) (loop .loop .i) l (loop .loop .inv .1)), λ _. laying-done f (st .pre .0 .links) (loop .loop .i) l (loop .loop .inv .1))
+
+abbrev failedAt : tie.Then2 Inv-loop μ-loop → tie.At-loop Inv-loop μ-loop
+failedAt c = loopOf (elseOf (c .before .before .before .before))
 
 pub lay-by-txid-spec : {M : Type 1} → statement M
 lay-by-txid-spec =
@@ -225,8 +270,14 @@ lay-by-txid-spec =
     (λ c. omega (arith, room (c .before)))
     (λ c. search needs)
     list-cluster-requires
-    (λ c. omega (arith, room (c .before .before .before .before .before .before), c .before .before .before .list-cluster .ensures .0))
-    (λ c. omega (arith, room (c .before .before .before .before .before .before)))
+    (λ c. failedAt c .loop .inv .2)
+    (λ c. kept (c .before .before .before .before) ∙ failedAt c .loop .inv .3)
+    (λ c. failedAt c .loop .inv .4)
+    (λ c. failedAt c .loop .inv .5)
+    (λ c. failedAt c .loop .inv .6)
+    returns
+    (λ c. omega (arith, room (listAt c .before .before .before), many c))
+    (λ c. omega (arith, room (listAt c .before .before .before)))
     (λ c. search needs)
     (λ c. search needs)
     part-note-all-end
@@ -241,4 +292,4 @@ lay-by-txid-spec =
     (λ c. c .before .loop .inv .4)
     (λ c. c .before .loop .inv .5)
     (λ c. c .before .loop .inv .6)
-    returns)
+    returns-2)

@@ -1,7 +1,7 @@
 -- `lay_out`: nothing where the table does not stand or a room is too short; else the slots by txid, ranked, and then the clusters. Assumes
 -- nothing.
 use mathlib.Core.Path.{_≡_, sym, ap, _∙_, subst}
-use mathlib.Core.Bool.{true, false≢true}
+use mathlib.Core.Bool.{Bool, true, _&&_, false≢true}
 use mathlib.Core.List.{List, [], _∷_, _++_}
 use Prim.Native.Nat.{ℕ, _≤_, _<_}
 use native.Mathlib.Omega.{arith}
@@ -12,12 +12,14 @@ use borrow.Author.Tests.{not-true, not-false}
 use Rattle.lists.specs.Lists.{distinct}
 use Rattle.pool_table.specs.Pool.{slotCount}
 use Rattle.pool_table.specs.Words.{poolOf}
-use Rattle.pool_table.specs.WellFormed.{wellFormed}
+use Rattle.pool_table.specs.WellFormed.{clustersWithin}
 use Rattle.pool_order.specs.Order.{slotsByTxid, roomy, standsIn}
 use Rattle.pool_order.specs.Packed.{Standing}
 use Rattle.pool_order.proofs.Slots.{roomy-both}
 use Rattle.pool_order.proofs.Theorems.{slots-once}
-use Rattle.pool_members.proofs.Laid.{six-wide, stands-short, stands-rest, stands-both, slots-in, order-fits, order-is}
+use Rattle.pool_check.specs.Linked.{Linked}
+use Rattle.pool_check.proofs.Parts.{stands-linked, linked-both}
+use Rattle.pool_members.proofs.Laid.{six-wide, stands-short, stands-rest, slots-in, order-fits, order-is}
 use Rattle.pool_members.proofs.lay_out.Statement.{statement}
 use Rattle.pool_members.proofs.lay_out.Tie as tie
 
@@ -55,42 +57,51 @@ returns c =
 
 -- ---- whether the table stands
 
-abbrev begun : tie.After-sort-well-formed → tie.Start
+abbrev begun : tie.After-sort-linked → tie.Start
 begun c = start (c .before .before .before .before)
 
-six-are : (c : tie.After-sort-well-formed) → roomy (slots (begun c)) (six (begun c)) ≡ true
+six-are : (c : tie.After-sort-linked) → roomy (slots (begun c)) (six (begun c)) ≡ true
 six-are c =
     let else = c .before .before .before in
     sym (wide (else .before)) ∙ not-false (else .before .are-wide .result) (else .if1 .left)
 
-stood : (c : tie.After-sort-well-formed) → standsIn (begun c .args .table .now) (six (begun c) ++ two (begun c)) ≡ c .sort-well-formed .result .stands
-stood c = stands-rest (begun c .args .table .now) (six (begun c)) (two (begun c)) (six-are c) ∙ sym (c .sort-well-formed .ensures .0)
+stood : (c : tie.After-sort-linked)
+    → standsIn (begun c .args .table .now) (six (begun c) ++ two (begun c))
+    ≡ (c .sort-linked .result .stands && clustersWithin (poolOf (begun c .args .table .now)))
+stood c =
+    let t = begun c .args .table .now in
+    stands-rest t (six (begun c)) (two (begun c)) (six-are c)
+    ∙ stands-linked t (two (begun c))
+    ∙ ap (λ (b : Bool). b && clustersWithin (poolOf t)) (sym (c .sort-linked .ensures .0))
 
 returns-2 : tie.Need-returns-2
 returns-2 c =
     let sort = c .before .before .before .before .before .before in
-    (sym (stood sort ∙ not-true (sort .sort-well-formed .result .stands) (c .if2 .taken)), λ e. absurd (false≢true e))
+    let p = poolOf (begun sort .args .table .now) in (
+      sym (stood sort ∙ ap (λ (b : Bool). b && clustersWithin p) (not-true (sort .sort-linked .result .stands) (c .if2 .taken))),
+      λ e. absurd (false≢true e),
+    )
 
 -- ---- a table that stands
 
-abbrev sortAt : tie.Else2 → tie.After-sort-well-formed
+abbrev sortAt : tie.Else2 → tie.After-sort-linked
 sortAt c = c .before .before .before .before .before .before
 
 module _ (c : tie.Else2) where
   abbrev s : tie.Start
   s = begun (sortAt c)
 
-  stands : sortAt c .sort-well-formed .result .stands ≡ true
-  stands = not-false (sortAt c .sort-well-formed .result .stands) (c .if2 .left)
+  stands : sortAt c .sort-linked .result .stands ≡ true
+  stands = not-false (sortAt c .sort-linked .result .stands) (c .if2 .left)
 
-  both : (roomy (slots s) (two s) ≡ true) × (wellFormed (s .args .table .now) ≡ true)
-  both = stands-both (s .args .table .now) (two s) (sym (sortAt c .sort-well-formed .ensures .0) ∙ stands)
+  both : (roomy (slots s) (two s) ≡ true) × Linked (s .args .table .now)
+  both = linked-both (s .args .table .now) (two s) (sym (sortAt c .sort-linked .ensures .0) ∙ stands)
 
-  well : wellFormed (s .args .table .now) ≡ true
-  well = both .1
+  linked : Linked (s .args .table .now)
+  linked = both .1
 
-  packed : Standing (poolOf (s .args .table .now)) (sortAt c .sort-well-formed .result .count) (s .args .ups .now) (sortAt c .sort-well-formed .last .1 .0)
-  packed = sortAt c .sort-well-formed .ensures .1 stands
+  packed : Standing (poolOf (s .args .table .now)) (sortAt c .sort-linked .result .count) (s .args .ups .now) (sortAt c .sort-linked .last .1 .0)
+  packed = sortAt c .sort-linked .ensures .1 stands
 
   rooms : (slots s < length (s .args .members .now))
       × (slots s < length (s .args .bounds .now))
@@ -100,11 +111,11 @@ module _ (c : tie.Else2) where
       × (slots s < length (s .args .places .now))
   rooms = six-wide (six-are (sortAt c))
 
-  in-ups : slots s < length (sortAt c .sort-well-formed .last .1 .0)
-  in-ups = omega (arith, roomy-both _ (both .0) .0, sortAt c .sort-well-formed .kept .1 .0)
+  in-ups : slots s < length (sortAt c .sort-linked .last .1 .0)
+  in-ups = omega (arith, roomy-both _ (both .0) .0, sortAt c .sort-linked .kept .1 .0)
 
-  few : sortAt c .sort-well-formed .result .count ≤ slots s
-  few = order-fits (s .args .table .now) well packed
+  few : sortAt c .sort-linked .result .count ≤ slots s
+  few = order-fits (s .args .table .now) linked packed
 
 unpack-all-requires : tie.Need-unpack-all-requires
 unpack-all-requires c κs = let else = c .before .before in simp length-take (omega (arith, few else, rooms else .3))
@@ -116,11 +127,11 @@ elseOf c = c .before .before .before
 
 module _ (c : tie.After-unpack-all) where
   abbrev n : ℕ
-  n = sortAt (elseOf c) .sort-well-formed .result .count
+  n = sortAt (elseOf c) .sort-linked .result .count
 
   sorted : take n (c .unpack-all .last .1 .0) ≡ slotsByTxid (poolOf (s (elseOf c) .args .table .now))
   sorted =
-      order-is (s (elseOf c) .args .table .now) (well (elseOf c)) (packed (elseOf c)) (s (elseOf c) .args .order .now) (c .unpack-all .ensures)
+      order-is (s (elseOf c) .args .table .now) (linked (elseOf c)) (packed (elseOf c)) (s (elseOf c) .args .order .now) (c .unpack-all .ensures)
 
   within : n ≤ length (c .unpack-all .last .1 .0)
   within = omega (arith, few (elseOf c), rooms (elseOf c) .3, c .unpack-all .kept .1 .0)
@@ -133,7 +144,7 @@ rank-all-requires c κs =
       ap distinct (sorted all) ∙ slots-once (poolOf t),
       λ k l.
           subst (λ (xs : List ℕ). getD xs k 0 < length (s else .args .ranks .now)) (sym (sorted all))
-          (omega (arith, rooms else .4, slots-in t (well else) k (subst (λ (xs : List ℕ). k < length xs) (sorted all) l))),
+          (omega (arith, rooms else .4, slots-in t (linked else) k (subst (λ (xs : List ℕ). k < length xs) (sorted all) l))),
     )
 
 -- ---- the clusters
@@ -144,7 +155,7 @@ lay-by-txid-requires c κs =
     let all = rank .before .before .before .before .before in
     let else = elseOf all in
     let bounds = s else .args .bounds .now in (
-      well else,
+      linked else,
       (
         sorted all,
         (
@@ -165,7 +176,10 @@ returns-3 : tie.Need-returns-3
 returns-3 c =
     let lay = c .before .before .before .before .before .before .before .before .before .before in
     let else = elseOf (lay .before .before .before .before .before .before .before .before .before .before .before .before .before .before .before) in
-    (sym (stood (sortAt else) ∙ stands else), λ _. lay .lay-by-txid .ensures)
+    let p = poolOf (s else .args .table .now) in (
+      lay .lay-by-txid .ensures .0 ∙ sym (stood (sortAt else) ∙ ap (λ (b : Bool). b && clustersWithin p) (stands else)),
+      lay .lay-by-txid .ensures .1,
+    )
 
 pub lay-out-spec : {M : Type 1} → statement M
 lay-out-spec =
@@ -194,6 +208,6 @@ lay-out-spec =
     (λ c. c .before .before .before .before .before .before .before .before .before .before .before .before .before .before .before .before .before .before .before .before .before .before .before .before .before .unpack-all .kept .1 .0)
     (λ c. c .before .before .before .before .before .before .before .before .before .before .before .before .before .before .before .before .before .before .before .before .rank-all .kept .1 .0)
     (λ c. c .before .before .before .before .before .before .before .before .before .before .lay-by-txid .kept .1 .1 .1 .0)
-    (λ c. c .before .before .before .before .before .before .before .before .before .before .lay-by-txid .kept .1 .1 .1 .1 .1 .1 .1 .0 ∙ sortAt (elseOf (c .before .before .before .before .before .before .before .before .before .before .before .before .before .before .before .before .before .before .before .before .before .before .before .before .before)) .sort-well-formed .kept .1 .0)
-    (λ c. sortAt (elseOf (c .before .before .before .before .before .before .before .before .before .before .before .before .before .before .before .before .before .before .before .before .before .before .before .before .before)) .sort-well-formed .kept .1 .1 .0)
+    (λ c. c .before .before .before .before .before .before .before .before .before .before .lay-by-txid .kept .1 .1 .1 .1 .1 .1 .1 .0 ∙ sortAt (elseOf (c .before .before .before .before .before .before .before .before .before .before .before .before .before .before .before .before .before .before .before .before .before .before .before .before .before)) .sort-linked .kept .1 .0)
+    (λ c. sortAt (elseOf (c .before .before .before .before .before .before .before .before .before .before .before .before .before .before .before .before .before .before .before .before .before .before .before .before .before)) .sort-linked .kept .1 .1 .0)
     returns-3)
