@@ -1,5 +1,7 @@
+pub mod Answers
 pub mod Chunks
 pub mod Lines
 pub mod Sizes
 pub mod Steps
+pub mod Stops
 pub mod Theorems

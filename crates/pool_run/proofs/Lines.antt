@@ -13,7 +13,8 @@ use Rattle.lists.proofs.Numbers.{lt-or-ge}
 use Rattle.texts.specs.Places.{split, splitFrom}
 use Rattle.pool_reader.specs.Requests.{longestLine, requestOf}
 use Rattle.pool_reader.proofs.Asking.{too-long}
-use Rattle.pool_run.specs.Standing.{keptLength, Gathered, lastNumber, numberBehind}
+use Rattle.pool_session.specs.Program.{numberBehind}
+use Rattle.pool_run.specs.Standing.{keptLength, Gathered, Cut}
 
 -- ---- the line that is gathered
 
@@ -56,15 +57,15 @@ module _ {pending line : List ℕ} {len : ℕ} (g : Gathered pending line len) w
 -- ---- the input goes on by one byte
 
 module _ (input : List ℕ) (lines : List (List ℕ)) (pending : List ℕ) (b : ℕ)
-    (cut : (rest : List ℕ) → split 10 (input ++ rest) ≡ lines ++ splitFrom 10 pending rest) where
+    (cut : Cut input lines pending) where
   further : (rest : List ℕ) → split 10 ((input ++ (b ∷ [])) ++ rest) ≡ lines ++ splitFrom 10 pending (b ∷ rest)
   further rest = ap (split 10) (append-assoc input (b ∷ []) rest) ∙ cut (b ∷ rest)
 
-  pub cut-within : (b ≡ 10 → ⊥) → (rest : List ℕ) → split 10 ((input ++ (b ∷ [])) ++ rest) ≡ lines ++ splitFrom 10 (pending ++ (b ∷ [])) rest
+  pub cut-within : (b ≡ 10 → ⊥) → Cut (input ++ (b ∷ [])) lines (pending ++ (b ∷ []))
   unfolding splitFrom
   cut-within n rest = further rest ∙ rw (ne-eqb b 10 n)
 
-  pub cut-behind : b ≡ 10 → (rest : List ℕ) → split 10 ((input ++ (b ∷ [])) ++ rest) ≡ (lines ++ (pending ∷ [])) ++ splitFrom 10 [] rest
+  pub cut-behind : b ≡ 10 → Cut (input ++ (b ∷ [])) (lines ++ (pending ∷ [])) []
   unfolding splitFrom
   cut-behind e rest = further rest ∙ rw (eq-eqb b 10 e) (sym (append-assoc lines (pending ∷ []) (splitFrom 10 [] rest)))
 

@@ -1,7 +1,7 @@
 -- From what a step says to where the program stands behind its line, and behind a byte within a line. Assumes nothing.
 use mathlib.Core.Path.{_≡_, refl, sym, ap, _∙_}
 use mathlib.Core.Bool.{Bool, true}
-use mathlib.Core.List.{List, [], _∷_, _++_}
+use mathlib.Core.List.{List, [], _∷_, _++_, append-nil}
 use Prim.Native.Nat.{ℕ, suc, _+_, _≤_, min}
 use native.Mathlib.Omega.{arith}
 use lib.IntN.{ℤ}
@@ -12,11 +12,15 @@ use Rattle.pool_reader.specs.Requests.{Request, requestOf}
 use Rattle.pool_session.specs.declared.Done.{Done}
 use Rattle.pool_session.specs.Session.{Session, noPool, slotsOf, after}
 use Rattle.pool_session.specs.Answers.{textOf}
-use Rattle.pool_session.specs.Program.{behindLines}
-use Rattle.pool_session.specs.Memory.{Lent, lent, wordsFor, sessionIn, Answered, Stepped}
+use Rattle.pool_session.specs.Program.{lastText, numberBehind, answersFrom, responses, behindLines}
+use Rattle.pool_session.specs.Memory.{Lent, lent, wordsFor, sessionIn, Says, Answered, Stepped}
 use Rattle.pool_session.proofs.Steps.{asks}
 use Rattle.pool_run.specs.declared.State.{State}
-use Rattle.pool_run.specs.Standing.{keptLength, Gathered, numberBehind, Stands}
+use Rattle.pool_run.specs.declared.writes.Printed.{Printed}
+use Rattle.pool_run.specs.Reads.{held, unprinted, Wrote}
+use Rattle.pool_run.specs.Standing.{keptLength, Gathered, printedOf, Shown, Due, DueLast, Stands, Told, Holds, Responded}
+use Rattle.pool_run.specs.Stops.{Whole}
+use Rattle.pool_run.proofs.Answers.{printed-more, printed-whole, more-bytes}
 use Rattle.pool_run.proofs.Lines.{nothing-gathered, asks-same, cut-within, cut-behind, next-number}
 use Rattle.pool_run.proofs.Sizes.{Sized, few, table-length, sized-after, sized-lines}
 
@@ -45,17 +49,25 @@ session-left {n} {k} {q} {old} {new} {r} z st =
     (ap (take (r .slots)) (st .answers .marks)
     ∙ take-at (s .marks) (drop (length (s .marks)) (old .marks)) (r .slots) (z .marks ∙ sym e))
 
+-- ---- a text at the start of its room
+
+pub says-holds : (text old new : List ℕ) (len : ℕ) → Says text old new len → Holds text new len
+says-holds text old new len s = record {
+  within = omega (arith, s .0, ap length (s .1), length-append text (drop (length text) old));
+  says = ap (take len) (s .1) ∙ take-at text (drop (length text) old) len (sym (s .0));
+}
+
 -- ---- where the program stands
 
 pub at-start : (line words : List ℕ) (deltas : List ℤ) (marks : List ℕ)
-    → Stands [] (record { slots = 0; len = 0; number = 1; written = true }) line words deltas marks
-unfolding behindLines wordsFor
+    → Stands [] (record { slots = 0; len = 0; printed = unprinted }) line words deltas marks
+unfolding answersFrom behindLines wordsFor
 at-start line words deltas marks = record {
   lines = [];
   pending = [];
   cut = λ rest. refl;
   gathered = nothing-gathered line;
-  number = refl;
+  shown = record { takes = refl; number = refl; bytes = refl };
   slots = refl;
   session = refl;
 }
@@ -65,48 +77,100 @@ module _ {input : List ℕ} {at : State} {line words : List ℕ} {deltas : List 
   pub kept-within : at .len ≤ keptLength
   kept-within = omega (arith, st .gathered .many)
 
+  -- each whole line is answered
+  pub told : {read : ℕ} → read ≡ held (length input) → Told read at
+  told e = record {
+    input = input;
+    lines = st .lines;
+    pending = st .pending;
+    many = e;
+    cut = st .cut;
+    kept = st .gathered .many;
+    shown = st .shown;
+  }
+
   -- a byte within the line
-  pub byte-taken : (b : ℕ) {len : ℕ} {new : List ℕ} {written : Bool} → (b ≡ 10 → ⊥)
+  pub byte-taken : (b : ℕ) {len : ℕ} {new : List ℕ} → (b ≡ 10 → ⊥)
       → ((pending : List ℕ) → Gathered pending line (at .len) → Gathered (pending ++ (b ∷ [])) new len)
-      → Stands (input ++ (b ∷ [])) (record { slots = at .slots; len = len; number = at .number; written = written }) new words deltas marks
+      → Stands (input ++ (b ∷ [])) (record { slots = at .slots; len = len; printed = at .printed }) new words deltas marks
   byte-taken b n g = record {
     lines = st .lines;
     pending = st .pending ++ (b ∷ []);
     cut = cut-within input (st .lines) (st .pending) b (st .cut) n;
     gathered = g (st .pending) (st .gathered);
-    number = st .number;
+    shown = st .shown;
     slots = st .slots;
     session = st .session;
   }
 
-  -- the line is answered
-  pub line-answered : {old new : List ℕ} {words2 : List ℕ} {deltas2 : List ℤ} {marks2 : List ℕ} {r : Done} {number : ℕ} {written : Bool}
-      → Stepped (min (at .slots) capacity) (at .number) (requestOf (take (at .len) line)) (lent words deltas marks old) (lent words2 deltas2 marks2 new) r
-      → number ≡ numberBehind (at .number)
-      → Stands (input ++ (10 ∷ [])) (record { slots = r .slots; len = 0; number = number; written = written }) line words2 deltas2 marks2
-  line-answered {old} {new} {words2} {deltas2} {marks2} {r} step e =
+  -- the line is done
+  pub line-done : {old new : List ℕ} {words2 : List ℕ} {deltas2 : List ℤ} {marks2 : List ℕ} {r : Done} {k : ℕ} → k ≡ at .printed .number
+      → Stepped (min (at .slots) capacity) k (requestOf (take (at .len) line)) (lent words deltas marks old) (lent words2 deltas2 marks2 new) r
+      → Responded (st .lines) (st .pending) (at .printed .number) (lent words2 deltas2 marks2 new) r
+  line-done {old} {new} {words2} {deltas2} {marks2} {r} {k} e step =
       let before = sized-lines (st .lines) in
       let within : at .slots ≤ capacity = rw (st .slots) (few (before .table)) in
-      let held : min (at .slots) capacity ≡ at .slots = omega arith in
+      let same : min (at .slots) capacity ≡ at .slots = omega arith in
       let q = requestOf (st .pending) in
       let m = lent words deltas marks old in
-      let now : Stepped (at .slots) (at .number) q m (lent words2 deltas2 marks2 new) r = asks held (asks-same (st .gathered)) step in
+      let now : Stepped (at .slots) (at .printed .number) q m (lent words2 deltas2 marks2 new) r =
+      rw (← e) (asks same (asks-same (st .gathered)) step) in
       let leaves : after (sessionIn (at .slots) m) q ≡ behindLines noPool (st .lines ++ (st .pending ∷ [])) =
       ap (λ (s : Session). after s q) (st .session) ∙ sym (behind-more noPool (st .lines) (st .pending)) in
       let sized : Sized (after (sessionIn (at .slots) m) q) = rw leaves (sized-lines (st .lines ++ (st .pending ∷ []))) in
+      record {
+        holds = rw (← st .session) (says-holds (textOf (sessionIn (at .slots) m) (at .printed .number) q) old new (r .len) (now .answers .says));
+        slots = now .slots ∙ ap slotsOf leaves;
+        session = session-left sized now ∙ leaves;
+      }
+
+  -- its answer is due
+  pub answer-due : {words2 : List ℕ} {deltas2 : List ℤ} {marks2 out : List ℕ} {r : Done}
+      → Responded (st .lines) (st .pending) (at .printed .number) (lent words2 deltas2 marks2 out) r
+      → Due (at .printed) (take (r .len) out)
+  answer-due h = record { lines = st .lines; pending = st .pending; shown = st .shown; says = h .holds .says }
+
+  -- and written
+  pub line-answered : {words2 : List ℕ} {deltas2 : List ℤ} {marks2 out : List ℕ} {r : Done} {p : Printed}
+      → Responded (st .lines) (st .pending) (at .printed .number) (lent words2 deltas2 marks2 out) r
+      → Wrote (at .printed) (length (take (r .len) out)) p → p .«is_open» ≡ true
+      → Stands (input ++ (10 ∷ [])) (record { slots = r .slots; len = 0; printed = p }) line words2 deltas2 marks2
+  line-answered h wrote still =
+      let e = st .shown .number in
       record {
         lines = st .lines ++ (st .pending ∷ []);
         pending = [];
         cut = cut-behind input (st .lines) (st .pending) 10 (st .cut) refl;
         gathered = nothing-gathered line;
-        number = e ∙ next-number (at .number) (length (st .lines)) (st .number) ∙ ap numberBehind (sym (length-append (st .lines) (st .pending ∷ [])));
-        slots = now .slots ∙ ap slotsOf leaves;
-        session = session-left sized now ∙ leaves;
+        shown = record {
+          takes = still;
+          number =
+              wrote still .0
+              ∙ next-number (at .printed .number) (length (st .lines)) e
+              ∙ ap numberBehind (sym (length-append (st .lines) (st .pending ∷ [])));
+          bytes =
+              more-bytes (printedOf (st .lines)) (printedOf (st .lines ++ (st .pending ∷ [])))
+              (textOf (behindLines noPool (st .lines)) (at .printed .number) (requestOf (st .pending)))
+              (st .shown .bytes) (printed-more (st .lines) (st .pending) (at .printed .number) e) (ap length (h .holds .says)) (wrote still .1);
+        };
+        slots = h .slots;
+        session = h .session;
       }
 
--- ---- an answer lies within its room
+-- ---- the input's end
 
-pub text-within : {n k : ℕ} {q : Request} {old new : Lent} {len : ℕ} → Answered n k q old new len → len ≤ length (new .out)
-text-within {n} {k} {q} {old} a =
-    let text = textOf (sessionIn n old) k q in
-    omega (arith, a .says .0, ap length (a .says .1), length-append text (drop (length text) (old .out)))
+module _ {read : ℕ} {at : State} (t : Told read at) where
+  pub last-due : {out : List ℕ} {n : ℕ} → Holds (lastText (at .printed .number) (t .pending)) out n → DueLast (at .printed) (take n out)
+  last-due h = record { lines = t .lines; pending = t .pending; shown = t .shown; says = h .says }
+
+  pub all-printed : {out : List ℕ} {n : ℕ} {p : Printed} → Holds (lastText (at .printed .number) (t .pending)) out n
+      → Wrote (at .printed) (length (take n out)) p → p .«is_open» ≡ true → Whole read p
+  all-printed h wrote still = record {
+    input = t .input;
+    many = t .many;
+    takes = still;
+    bytes =
+        more-bytes (printedOf (t .lines)) (responses (t .input)) (lastText (at .printed .number) (t .pending)) (t .shown .bytes)
+        (printed-whole (t .lines) (t .input) (t .pending) (at .printed .number) (t .cut) (t .shown .number))
+        (ap length (h .says)) (wrote still .1);
+  }

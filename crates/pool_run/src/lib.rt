@@ -3,25 +3,47 @@
 ghost use mathlib.Core.Path.{_≡_};
 ghost use mathlib.Core.Bool.{true};
 ghost use mathlib.Core.List.{List, [], _∷_, _++_};
-ghost use Prim.Native.Nat.{ℕ, _≤_};
+ghost use Prim.Native.Nat.{ℕ, _≤_, min};
 ghost use lib.ListN.{length};
-ghost use Rattle.pool_run.specs.Standing.{keptLength, Gathered, numberBehind, Stands, Stood};
+ghost use lib.IntN.{ℤ};
+ghost use Rattle.pool_session.specs.Program.{lastText};
+ghost use Rattle.pool_session.specs.Memory.{lent};
+ghost use Rattle.pool_run.specs.Standing.{keptLength, Gathered, Stands, Stood, Told, Holds, Responded};
+ghost use Rattle.pool_run.specs.Stops.{Stopped};
 
+mod counts;
 mod reads;
+mod writes;
 
-use libc::STDOUT_FILENO;
+use pool_session::Done;
 use reads::End;
+use reads::Failure;
 use reads::Got;
+use reads::Input;
+use writes::Printed;
 
 // One more than the most bytes of a line: so many of a longer one are kept, and it is answered as what it is, too long.
 const KEPT: usize = 8193;
 
-// How many slots the pool has, how many bytes are kept of the line that is being read, its number, and whether all answers were written.
+// How many slots the pool has, how many bytes are kept of the line that is being read, and what was printed.
 struct State {
     slots: usize,
     len: usize,
-    number: u64,
-    written: bool,
+    printed: Printed,
+}
+
+// Why nothing more is read and printed: the input has ended; a read failed; a write failed; or there were more reads than can be counted.
+enum Stop {
+    Ended(End),
+    Failed(Failure),
+    Closed,
+    Tired(Input),
+}
+
+// And where the program stands then.
+struct Last {
+    stop: Stop,
+    at: State,
 }
 
 pub fn run() {
@@ -32,56 +54,84 @@ pub fn run() {
     read_all(&mut line, &mut memory, &mut deltas, &mut marks);
 }
 
+// The memory of a table of 1,024 slots: a function of its own, since no local array of another function can be so long.
 fn words() -> [u64; 39_940] {
     [0; 39_940]
 }
 
-// Reads and answers to the input's end. Where a read fails or the output is closed, nothing more is printed. A proved loop has to end, and
-// nothing says that the input does: so the loop counts its turns down, from a number that no run uses up.
+// Reads and answers to the input's end. Where a read or a write fails, nothing more is printed. A proved loop has to end, and nothing says
+// that the input does: so the loop counts its turns down, from a number that no run uses up.
 fn read_all(
     line: &mut [u8; KEPT],
     memory: &mut [u64; 39_940],
     deltas: &mut [i64; 1024],
     marks: &mut [u8; 1024],
-) -> State
-    ensures { λ r. ⌜ (r .written ≡ true → Stood r (now (line .exit)) (now (memory .exit)) (now (deltas .exit)) (now (marks .exit))) ⌝ }
+) -> Last
+    ensures { λ r. ⌜ Stopped (r .stop) (r .at) (now (line .exit)) (now (memory .exit)) (now (deltas .exit)) (now (marks .exit)) ⌝ }
 {
     let mut chunk = io::buffer();
     let mut at = State {
         slots: 0,
         len: 0,
-        number: 1,
-        written: true,
+        printed: writes::nothing(),
     };
+    let mut input = reads::nothing();
     let mut turns = u64::MAX;
     // Each line of the input so far is answered, and the last one is gathered up to where the input stands.
     while 0 < turns {
         turns -= 1;
-        match reads::read_chunk(&mut chunk) {
-            Got::Failed(_) => return at,
-            Got::Ended(end) => {
-                cut_off(end, at);
-                return at;
-            }
-            Got::Bytes(n) => {
+        match reads::read_chunk(&mut chunk, input, at) {
+            Got::Failed(failure) => return stopped(Stop::Failed(failure), at),
+            Got::Ended(end) => return finish(end, at),
+            Got::Bytes(more) => {
+                let n = more.last();
                 at = take_in(&chunk[..n], at, line, memory, deltas, marks);
-                if !at.written {
-                    return at;
+                let printed = at.printed;
+                if !printed.is_open() {
+                    return stopped(Stop::Closed, at);
                 }
+                input = more;
             }
         }
     }
-    at
+    stopped(Stop::Tired(input), at)
 }
 
-// The input has ended. A line without its newline was cut off, and what it would have said is not known: 13.
-fn cut_off(_end: End, at: State) {
-    if at.len == 0 {
-        return;
-    }
+fn stopped(stop: Stop, at: State) -> Last
+    ensures { λ r. ⌜ (r .stop ≡ stop) × (r .at ≡ at) ⌝ }
+{
+    Last { stop, at }
+}
+
+// The input has ended.
+fn finish(end: End, at: State) -> Last
+    requires { ⌜ Told (end .bytes) at ⌝ }
+    ensures { λ r. ⌜ ((line words : List ℕ) (deltas : List ℤ) (marks : List ℕ) → Stopped (r .stop) (r .at) line words deltas marks) ⌝ }
+{
     let mut out = [0u8; 90_112];
-    let n = pool_writer::write_malformed(at.number, &mut out);
-    io::write_all(STDOUT_FILENO, &out[..n]);
+    let n = last_text(at, &mut out);
+    let printed = writes::write_last(&out[..n], at.printed);
+    let left = State {
+        slots: at.slots,
+        len: 0,
+        printed,
+    };
+    if !printed.is_open() {
+        return stopped(Stop::Closed, left);
+    }
+    stopped(Stop::Ended(end), left)
+}
+
+// A line without its newline was cut off, and what it would have said is not known: 13.
+fn last_text(at: State, out: &mut [u8; 90_112]) -> usize
+    ensures { λ r. ⌜ ((pending : List ℕ) → at .len ≡ min keptLength (length pending)
+        → Holds (lastText (at .printed .number) pending) (now (out .exit)) r) ⌝ }
+{
+    if at.len == 0 {
+        return 0;
+    }
+    let printed = at.printed;
+    pool_writer::write_malformed(printed.number(), out)
 }
 
 // Takes in what was read, byte by byte, unless the output is closed meanwhile.
@@ -93,9 +143,9 @@ fn take_in(
     deltas: &mut [i64; 1024],
     marks: &mut [u8; 1024],
 ) -> State
-    requires { ⌜ from .len ≤ keptLength ⌝ }
+    requires { ⌜ Stood from (now line) (now memory) (now deltas) (now marks) ⌝ }
     ensures { λ r. ⌜ ((input : List ℕ) → Stands input from (now (line .entry)) (now (memory .entry)) (now (deltas .entry)) (now (marks .entry))
-        → r .written ≡ true
+        → r .printed .«is_open» ≡ true
         → Stands (input ++ now (chunk .entry)) r (now (line .exit)) (now (memory .exit)) (now (deltas .exit)) (now (marks .exit))) ⌝ }
 {
     let mut at = from;
@@ -103,7 +153,8 @@ fn take_in(
     // The first i bytes are taken in.
     while i < chunk.len() {
         at = take_byte(chunk[i], at, line, memory, deltas, marks);
-        if !at.written {
+        let printed = at.printed;
+        if !printed.is_open() {
             return at;
         }
         i += 1;
@@ -120,27 +171,26 @@ fn take_byte(
     deltas: &mut [i64; 1024],
     marks: &mut [u8; 1024],
 ) -> State
-    requires { ⌜ at .len ≤ keptLength ⌝ }
-    ensures { λ r. ⌜ r .len ≤ keptLength ⌝ }
+    requires { ⌜ Stood at (now line) (now memory) (now deltas) (now marks) ⌝ }
     ensures { λ r. ⌜ ((input : List ℕ) → Stands input at (now (line .entry)) (now (memory .entry)) (now (deltas .entry)) (now (marks .entry))
+        → r .printed .«is_open» ≡ true
         → Stands (input ++ (byte ∷ [])) r (now (line .exit)) (now (memory .exit)) (now (deltas .exit)) (now (marks .exit))) ⌝ }
 {
     if byte == b'\n' {
         return answer(at, line, memory, deltas, marks);
     }
+    let printed = at.printed;
     let len = keep(byte, at.len, line);
     State {
         slots: at.slots,
         len,
-        number: at.number,
-        written: at.written,
+        printed,
     }
 }
 
 // One more byte of the line; of a line that is too long no more are kept.
 fn keep(byte: u8, len: usize, line: &mut [u8]) -> usize
     requires { ⌜ (len ≤ keptLength) × (length (now line) ≡ keptLength) ⌝ }
-    ensures { λ r. ⌜ r ≤ keptLength ⌝ }
     ensures { λ r. ⌜ ((pending : List ℕ) → Gathered pending (now (line .entry)) len → Gathered (pending ++ (byte ∷ [])) (now (line .exit)) r) ⌝ }
 {
     if KEPT <= len {
@@ -159,37 +209,45 @@ fn answer(
     marks: &mut [u8; 1024],
 ) -> State
     requires { ⌜ at .len ≤ length (now line) ⌝ }
-    ensures { λ r. ⌜ r .len ≤ keptLength ⌝ }
+    requires { ⌜ Stood at (now line) (now memory) (now deltas) (now marks) ⌝ }
     ensures { λ r. ⌜ ((input : List ℕ) → Stands input at (now (line .entry)) (now (memory .entry)) (now (deltas .entry)) (now (marks .entry))
+        → r .printed .«is_open» ≡ true
         → Stands (input ++ (10 ∷ [])) r (now (line .entry)) (now (memory .exit)) (now (deltas .exit)) (now (marks .exit))) ⌝ }
 {
-    let len = at.len;
     let mut out = [0u8; 90_112];
-    let done = pool_session::step(
+    let done = respond(at, line, memory, deltas, marks, &mut out);
+    let n = done.len;
+    let printed = writes::write_answer(&out[..n], at.printed);
+    State {
+        slots: done.slots,
+        len: 0,
+        printed,
+    }
+}
+
+// What the line asks for is done, and its answer stands in the room.
+fn respond(
+    at: State,
+    line: &[u8],
+    memory: &mut [u64; 39_940],
+    deltas: &mut [i64; 1024],
+    marks: &mut [u8; 1024],
+    out: &mut [u8; 90_112],
+) -> Done
+    requires { ⌜ at .len ≤ length (now line) ⌝ }
+    ensures { λ r. ⌜ ((input : List ℕ) (st : Stands input at (now (line .entry)) (now (memory .entry)) (now (deltas .entry)) (now (marks .entry)))
+        → Responded (st .lines) (st .pending) (at .printed .number)
+        (lent (now (memory .exit)) (now (deltas .exit)) (now (marks .exit)) (now (out .exit))) r) ⌝ }
+{
+    let len = at.len;
+    let printed = at.printed;
+    pool_session::step(
         &line[..len],
-        at.number,
+        printed.number(),
         at.slots,
         memory,
         deltas,
         marks,
-        &mut out,
-    );
-    let n = done.len;
-    let written = io::write_all(STDOUT_FILENO, &out[..n]);
-    State {
-        slots: done.slots,
-        len: 0,
-        number: next(at.number),
-        written,
-    }
-}
-
-// The number of the next line.
-fn next(number: u64) -> u64
-    ensures { λ r. ⌜ r ≡ numberBehind number ⌝ }
-{
-    if number == u64::MAX {
-        return number;
-    }
-    number + 1
+        out,
+    )
 }

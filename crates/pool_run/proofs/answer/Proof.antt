@@ -1,30 +1,34 @@
 use mathlib.Core.Path.{sym}
-use Prim.Native.Nat.{_≤_}
-use native.Mathlib.Omega.{arith}
-use lib.ListN.{length}
 use lib.Seq.{length-take-le}
 use borrow.Author.Needs.{needs}
-use Rattle.pool_run.proofs.Steps.{line-answered, text-within}
+use Rattle.pool_run.specs.Standing.{Stood}
+use Rattle.pool_run.proofs.Steps.{answer-due, line-answered}
 use Rattle.pool_run.proofs.answer.Statement.{statement}
 use Rattle.pool_run.proofs.answer.Tie as tie
 
--- what is printed lies within its room
-within : (c : tie.After-step) → c .step .result .len ≤ length (c .step .last .1 .1 .1 .1 .1 .1 .0)
-within c = text-within (c .step .ensures .answers)
+-- the answer stands in its room
+within : tie.Need-array-share-prefix-out
+within c =
+    let stood = c .before .before .before .before .before .before .pre .1 in
+    c .respond .ensures (stood .input) (stood .stands) .holds .within
+
+due : tie.Need-write-answer-requires
+due c κs =
+    let called = c .before in
+    let stood = called .before .before .before .before .before .before .pre .1 in
+    answer-due (stood .stands) (called .respond .ensures (stood .input) (stood .stands))
 
 returns : tie.Need-returns
 returns c =
-    let called = c .before .before .before in
-    (omega arith, λ input st. line-answered st (called .step .ensures) (c .next .ensures))
+    let called = c .before .before in
+    λ input st. line-answered st (called .respond .ensures input st) (c .write-answer .ensures)
 
 pub answer-spec : {M : Type 1} → statement M
 answer-spec =
     tie.close
     (tie.spec
-    (λ c. sym (length-take-le _ _ (c .before .before .pre)))
     (λ c κs. search needs)
     within
     (λ c. sym (length-take-le _ _ (within (c .before))))
-    (λ c κs. search needs)
-    (λ c κs. search needs)
+    due
     returns)

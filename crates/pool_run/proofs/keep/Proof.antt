@@ -5,12 +5,12 @@ use Rattle.pool_run.proofs.keep.Statement.{statement}
 use Rattle.pool_run.proofs.keep.Tie as tie
 
 returns : tie.Need-returns
-returns c = (c .before .pre .0, λ pending g. byte-dropped g (c .before .args .byte) (c .if1 .taken))
+returns c = λ pending g. byte-dropped g (c .before .args .byte) (c .if1 .taken)
 
 returns-2 : tie.Need-returns-2
 returns-2 c =
     let start = c .before in
-    (omega (arith, c .if1 .left), λ pending g. byte-kept g (start .args .byte) (c .if1 .left) (omega (arith, c .if1 .left, start .pre .1)))
+    λ pending g. byte-kept g (start .args .byte) (c .if1 .left) (omega (arith, c .if1 .left, start .pre .1))
 
 pub keep-spec : {M : Type 1} → statement M
 keep-spec = tie.close (tie.spec returns (λ c. search needs) (λ c. search needs) (λ c. search needs) returns-2)

@@ -6,12 +6,12 @@ use Rattle.pool_run.proofs.take_byte.Tie as tie
 returns : tie.Need-returns
 returns c =
     let then = c .before .before .before .before .before .before in
-    (c .answer .ensures .0, λ input st. rw (then .if1 .taken) (c .answer .ensures .1 input st))
+    λ input st still. rw (then .if1 .taken) (c .answer .ensures input st still)
 
 returns-2 : tie.Need-returns-2
 returns-2 c =
-    let else = c .before .before in
-    (c .keep .ensures .0, λ input st. byte-taken st (else .before .args .byte) (else .if1 .left) (c .keep .ensures .1))
+    let else = c .before .before .before in
+    λ input st still. byte-taken st (else .before .args .byte) (else .if1 .left) (c .keep .ensures)
 
 pub take-byte-spec : {M : Type 1} → statement M
 take-byte-spec = tie.close (tie.spec (λ c κs. search needs) returns (λ c κs. search needs) returns-2)
