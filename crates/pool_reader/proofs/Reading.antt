@@ -161,7 +161,7 @@ module _ {text : List ℕ} {from : ℕ} {old values : List ℕ} {at i : ℕ} (s 
 
 -- ---- txids
 
-hex-length : (w : List ℕ) → isHex64 w ≡ true → length w ≡ 64
+pub hex-length : (w : List ℕ) → isHex64 w ≡ true → length w ≡ 64
 unfolding isHex64
 hex-length w e = eqb-true (length w) 64 (and-left (eqb (length w) 64) (allOf isHexDigit w) e)
 

@@ -35,8 +35,8 @@ pub enum Parsed {
     Make(Making),
     Clear,
     Totals,
-    Delta(Sats),
-    Mark(Withheld),
+    Delta(Delta),
+    Mark(Marking),
     Template(Terms),
     Malformed,
 }
@@ -55,12 +55,12 @@ pub struct Making {
 }
 
 // A slot's delta, and its mark.
-pub struct Sats {
+pub struct Delta {
     pub slot: u64,
     pub sats: i64,
 }
 
-pub struct Withheld {
+pub struct Marking {
     pub slot: u64,
     pub mark: u64,
 }
@@ -202,7 +202,7 @@ fn read_delta(line: &[u8], from: usize) -> Parsed
     let Signed::Value(sats) = read_signed(&line[last..end]) else {
         return Parsed::Malformed;
     };
-    Parsed::Delta(Sats {
+    Parsed::Delta(Delta {
         slot: values[0],
         sats,
     })
@@ -216,7 +216,7 @@ fn read_mark(line: &[u8], from: usize) -> Parsed
     if !only_numbers(line, from, &mut values) {
         return Parsed::Malformed;
     }
-    Parsed::Mark(Withheld {
+    Parsed::Mark(Marking {
         slot: values[0],
         mark: values[1],
     })

@@ -1,7 +1,6 @@
 pub mod Answers
 pub mod Chunks
 pub mod Lines
-pub mod Sizes
 pub mod Steps
 pub mod Stops
 pub mod Theorems

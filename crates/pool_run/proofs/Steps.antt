@@ -15,6 +15,7 @@ use Rattle.pool_session.specs.Answers.{textOf}
 use Rattle.pool_session.specs.Program.{lastText, numberBehind, answersFrom, responses, behindLines}
 use Rattle.pool_session.specs.Memory.{Lent, lent, wordsFor, sessionIn, Says, Answered, Stepped}
 use Rattle.pool_session.proofs.Steps.{asks}
+use Rattle.pool_session.proofs.Sizes.{Matched, few, table-length, matched-lines}
 use Rattle.pool_run.specs.declared.State.{State}
 use Rattle.pool_run.specs.declared.writes.Printed.{Printed}
 use Rattle.pool_run.specs.Reads.{held, unprinted, Wrote}
@@ -22,7 +23,6 @@ use Rattle.pool_run.specs.Standing.{keptLength, Gathered, printedOf, Sho
 use Rattle.pool_run.specs.Stops.{Whole}
 use Rattle.pool_run.proofs.Answers.{printed-more, printed-whole, more-bytes}
 use Rattle.pool_run.proofs.Lines.{nothing-gathered, asks-same, cut-within, cut-behind, next-number}
-use Rattle.pool_run.proofs.Sizes.{Sized, few, table-length, sized-after, sized-lines}
 
 -- ---- the session
 
@@ -36,7 +36,7 @@ parts : {t u : List ℕ} {d e : List ℤ} {m n : List ℕ} → t ≡ u → d ≡
 parts a b c = rw (a, b, c)
 
 -- what a step leaves stands at the start of the arrays, and is as long as it was
-session-left : {n k : ℕ} {q : Request} {old new : Lent} {r : Done} → Sized (after (sessionIn n old) q) → Stepped n k q old new r
+session-left : {n k : ℕ} {q : Request} {old new : Lent} {r : Done} → Matched (after (sessionIn n old) q) → Stepped n k q old new r
     → sessionIn (r .slots) new ≡ after (sessionIn n old) q
 session-left {n} {k} {q} {old} {new} {r} z st =
     let s = after (sessionIn n old) q in
@@ -108,7 +108,7 @@ module _ {input : List ℕ} {at : State} {line words : List ℕ} {deltas : List 
       → Stepped (min (at .slots) capacity) k (requestOf (take (at .len) line)) (lent words deltas marks old) (lent words2 deltas2 marks2 new) r
       → Responded (st .lines) (st .pending) (at .printed .number) (lent words2 deltas2 marks2 new) r
   line-done {old} {new} {words2} {deltas2} {marks2} {r} {k} e step =
-      let before = sized-lines (st .lines) in
+      let before = matched-lines (st .lines) in
       let within : at .slots ≤ capacity = rw (st .slots) (few (before .table)) in
       let same : min (at .slots) capacity ≡ at .slots = omega arith in
       let q = requestOf (st .pending) in
@@ -117,7 +117,7 @@ module _ {input : List ℕ} {at : State} {line words : List ℕ} {deltas : List 
       rw (← e) (asks same (asks-same (st .gathered)) step) in
       let leaves : after (sessionIn (at .slots) m) q ≡ behindLines noPool (st .lines ++ (st .pending ∷ [])) =
       ap (λ (s : Session). after s q) (st .session) ∙ sym (behind-more noPool (st .lines) (st .pending)) in
-      let sized : Sized (after (sessionIn (at .slots) m) q) = rw leaves (sized-lines (st .lines ++ (st .pending ∷ []))) in
+      let sized : Matched (after (sessionIn (at .slots) m) q) = rw leaves (matched-lines (st .lines ++ (st .pending ∷ []))) in
       record {
         holds = rw (← st .session) (says-holds (textOf (sessionIn (at .slots) m) (at .printed .number) q) old new (r .len) (now .answers .says));
         slots = now .slots ∙ ap slotsOf leaves;

@@ -1,12 +1,12 @@
 -- Where the pool program stands behind the bytes that it has read so far, however they came. Assumes nothing.
-use Prim.Native.Nat.{ℕ, _≤_, min}
+use Prim.Native.Nat.{ℕ, suc, _≤_, min}
 use mathlib.Core.Path.{_≡_}
 use mathlib.Core.Bool.{true}
 use mathlib.Core.List.{List, [], _∷_, _++_}
 use lib.ListN.{length, take}
 use lib.IntN.{ℤ}
 use Rattle.texts.specs.Places.{split, splitFrom}
-use Rattle.pool_reader.specs.Requests.{requestOf}
+use Rattle.pool_reader.specs.Requests.{longestLine, requestOf}
 use Rattle.pool_session.specs.declared.Done.{Done}
 use Rattle.pool_session.specs.Session.{noPool, slotsOf}
 use Rattle.pool_session.specs.Answers.{textOf}
@@ -16,9 +16,9 @@ use Rattle.pool_run.specs.declared.State.{State}
 use Rattle.pool_run.specs.declared.writes.Printed.{Printed}
 use Rattle.pool_run.specs.Reads.{held}
 
--- the bytes that are kept of a line: one more than it may have (`longestLine` of pool_reader), so that a longer one is still known as such
+-- the bytes that are kept of a line: one more than it may have, so that a longer one is still known as such
 abbrev pub keptLength : ℕ
-keptLength = 8193
+keptLength = suc longestLine
 
 -- the line that is being read has these bytes so far, and the first of them are kept
 pub record Gathered (pending line : List ℕ) (len : ℕ) : Type 0 where

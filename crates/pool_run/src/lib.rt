@@ -54,7 +54,7 @@ pub fn run() {
     read_all(&mut line, &mut memory, &mut deltas, &mut marks);
 }
 
-// The memory of a table of 1,024 slots: a function of its own, since no local array of another function can be so long.
+// The words of a table of 1,024 slots.
 fn words() -> [u64; 39_940] {
     [0; 39_940]
 }

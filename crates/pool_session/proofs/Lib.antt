@@ -1,4 +1,5 @@
-pub mod Memory
 pub mod Making
+pub mod Memory
+pub mod Sizes
 pub mod Steps
 pub mod Theorems

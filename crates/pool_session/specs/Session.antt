@@ -19,7 +19,7 @@ pub record Session : Type 0 where
   pub deltas : List ℤ
   pub marks : List ℕ
 
--- "A call before the first successful make is answered as the call answers on an empty table of length 0"
+-- README: "Before the first make that succeeds every other call is answered with 12, as on a table of no words."
 abbrev pub noPool : Session
 noPool = record { table = []; deltas = []; marks = [] }
 
@@ -31,7 +31,7 @@ slotsOf s = length (s .deltas)
 abbrev pub lentTable : ℕ → List ℕ
 lentTable n = replicate (rowAt n) 0
 
--- the new pool, which has no settings; "a refused make leaves the pool and its settings"
+-- the new pool, which has no settings; "A make that is refused leaves the pool and all settings."
 unfoldable pub afterMaking : ℕ → Limits → Session → Session
 afterMaking n l s =
     cond (eqb (makeAnswer (lentTable n) l) 0)
@@ -68,7 +68,7 @@ settingAnswer n k = answerOf (line 12 (eqb n 0) ∷ line 3 (not (ltb k n)) ∷ [
 abbrev pub afterDelta : ℕ → ℤ → Session → Session
 afterDelta k d s = record { table = s .table; deltas = set (s .deltas) k d; marks = s .marks }
 
--- "0 releases, any other number withholds": a mark is 0 or 1
+-- "any number but 0 withholds, 0 releases": a mark is 0 or 1
 unfoldable pub markOf : ℕ → ℕ
 markOf m = bit (not (eqb m 0))
 

@@ -97,14 +97,14 @@ fn answer(
             let len = show_totals(n, memory, out);
             Done { slots: n, len }
         }
-        Parsed::Delta(sats) => {
-            let slot = sats.slot;
-            let value = sats.sats;
-            let len = settings::put_delta(slot, value, n, deltas, out);
+        Parsed::Delta(delta) => {
+            let slot = delta.slot;
+            let sats = delta.sats;
+            let len = settings::put_delta(slot, sats, n, deltas, out);
             Done { slots: n, len }
         }
-        Parsed::Mark(withheld) => {
-            let len = settings::put_mark(withheld, n, marks, out);
+        Parsed::Mark(marking) => {
+            let len = settings::put_mark(marking, n, marks, out);
             Done { slots: n, len }
         }
         Parsed::Template(terms) => {
@@ -155,7 +155,7 @@ fn make_pool(
 {
     let wanted = making.slots;
     let limits = making.limits;
-    if 1024 < wanted {
+    if (CAPACITY as u64) < wanted {
         let len = pool_writer::write_number(refusals::OUT_OF_RANGE, out);
         return Done { slots: n, len };
     }

@@ -7,7 +7,7 @@ ghost use Rattle.lists.specs.Lists.{overwrite};
 ghost use Rattle.pool_session.specs.Session.{wiped, settingAnswer, markOf};
 ghost use Rattle.pool_writer.specs.Answers.{numberText};
 ghost use Rattle.pool_session.specs.Memory.{Says};
-use pool_reader::Withheld;
+use pool_reader::Marking;
 use pool_rules::Placed;
 use pool_writer::write_number;
 
@@ -64,15 +64,16 @@ pub fn put_delta(
 }
 
 // A mark is 0, or 1 for any other number.
-pub fn put_mark(withheld: Withheld, n: usize, marks: &mut [u8], out: &mut [u8; 90_112]) -> usize
+pub fn put_mark(marking: Marking, n: usize, marks: &mut [u8], out: &mut [u8; 90_112]) -> usize
     requires { ⌜ n ≤ length (now marks) ⌝ }
-    ensures { λ _. ⌜ now (marks .exit) ≡ overwrite (set (take n (now (marks .entry))) (withheld .slot) (markOf (withheld .mark))) (now (marks .entry)) ⌝ }
-    ensures { λ r. ⌜ Says (numberText (settingAnswer n (withheld .slot))) (now (out .entry)) (now (out .exit)) r ⌝ }
+    ensures { λ _. ⌜ now (marks .exit)
+        ≡ overwrite (set (take n (now (marks .entry))) (marking .slot) (markOf (marking .mark))) (now (marks .entry)) ⌝ }
+    ensures { λ r. ⌜ Says (numberText (settingAnswer n (marking .slot))) (now (out .entry)) (now (out .exit)) r ⌝ }
 {
-    let answer = setting_answer(n, withheld.slot);
+    let answer = setting_answer(n, marking.slot);
     if answer == 0 {
-        let at = withheld.slot as usize;
-        marks[at] = mark_of(withheld.mark);
+        let at = marking.slot as usize;
+        marks[at] = mark_of(marking.mark);
         return write_number(0, out);
     }
     write_number(answer, out)

@@ -8,7 +8,7 @@ use Rattle.pool_session.proofs.Steps.{has-slot, no-slot}
 use Rattle.pool_session.proofs.settings.put_mark.Statement.{statement}
 use Rattle.pool_session.proofs.settings.put_mark.Tie as tie
 
-within : (c : tie.Then1) → c .before .before .before .args .withheld .slot < c .before .before .before .args .n
+within : (c : tie.Then1) → c .before .before .before .args .marking .slot < c .before .before .before .args .n
 within c = has-slot _ _ (sym (c .before .setting-answer .ensures) ∙ c .if1 .taken)
 
 returns : tie.Need-returns
@@ -17,7 +17,7 @@ returns c =
     let then = mark .before in
     let start = then .before .before .before in
     let a = start .args in (
-      rw (mark .mark-of .ensures) (sets (a .n) (a .marks .now) (start .pre) (a .withheld .slot) (markOf (a .withheld .mark)) (within then)),
+      rw (mark .mark-of .ensures) (sets (a .n) (a .marks .now) (start .pre) (a .marking .slot) (markOf (a .marking .mark)) (within then)),
       rw (sym (then .before .setting-answer .ensures) ∙ then .if1 .taken) (c .write-number .ensures),
     )
 
@@ -27,8 +27,8 @@ returns-2 c =
     let asked = else .before in
     let start = asked .before .before in
     let a = start .args in (
-      sets-past (a .n) (a .marks .now) (start .pre) (a .withheld .slot) (markOf (a .withheld .mark))
-          (no-slot (a .n) (a .withheld .slot) (λ e. else .if1 .left (asked .setting-answer .ensures ∙ e))),
+      sets-past (a .n) (a .marks .now) (start .pre) (a .marking .slot) (markOf (a .marking .mark))
+          (no-slot (a .n) (a .marking .slot) (λ e. else .if1 .left (asked .setting-answer .ensures ∙ e))),
       rw (asked .setting-answer .ensures) at (c .write-number2 .ensures),
     )
 
