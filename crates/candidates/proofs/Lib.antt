@@ -1,6 +1,8 @@
 pub mod Ancestors
 pub mod Changes
 pub mod Sums
+pub mod Selection
+pub mod Insertion
 pub mod Append
 pub mod Rounds
 pub mod Kept

@@ -8,7 +8,7 @@ use lib.Dec.{ltb, leb}
 use lib.IntN.{ℤ}
 use lib.ListN.{length, take, drop, getD, length-append}
 use lib.Seq.{take-at, drop-at, drop-append-add, drop-drop}
-use borrow.Author.Tests.{ltb-true, lt-leb, le-leb}
+use borrow.Author.Tests.{ltb-true, leb-true, lt-leb, le-leb}
 use Rattle.feefrac.specs.declared.FeeFrac.{FeeFrac}
 use Rattle.feefrac.specs.Rate.{rateAt, rankOrder, isGreater}
 use Rattle.txset.specs.declared.TxSet.{TxSet}
@@ -21,8 +21,8 @@ use Rattle.feeset.specs.Total.{total}
 use Rattle.feeset.specs.Scan.{best, ranksAbove}
 use Rattle.candidates.specs.Candidates.{givenBack, ancestorSum, remaining, candidate, remainingAncestors, fewerAncestors}
 use Rattle.candidates.specs.Candidates.{appendAncestors, appendFor, rounds, ancestorOrder, fits, written, filled}
-use Rattle.candidates.specs.Steps.{ancestorIn, Counted, fewerBy, sorted, GaveBack, Appended}
-use Rattle.lists.proofs.Bools.{and-left}
+use Rattle.candidates.specs.Steps.{ancestorIn, Places, Counted, fewerBy, sorted, GaveBack, Appended}
+use Rattle.lists.proofs.Bools.{and-left, and-right}
 use Rattle.lists.proofs.Below.{elem-below}
 use Rattle.lists.proofs.Lists.{without-append}
 use Rattle.lists.proofs.Ranges.{list-below, count-below, count-parts}
@@ -82,8 +82,6 @@ pub record Taking
   pub sum : len + size todo ≤ n
   pub left : (i : ℕ) → mem todo i ≡ (ltb i n && not (elem i out))
   pub sums : (i : ℕ) → mem todo i ≡ true → rateAt sum-fees sum-sizes i ≡ ancestorSum fs ss n (memAt ws) (memAt ds) out i
-  pub fees : length sum-fees ≡ positions
-  pub sizes : length sum-sizes ≡ positions
   pub are : order ≡ out ++ drop len room
   pub long : length order ≡ length room
 
@@ -98,11 +96,11 @@ module _
     (counted : Counted ws all n counts)
     (room : List ℕ) where
   -- at first nothing is out
-  pub take-start : (sum-fees : List ℤ) (sum-sizes : List ℕ) → length sum-fees ≡ positions → length sum-sizes ≡ positions
+  pub take-start : (sum-fees : List ℤ) (sum-sizes : List ℕ)
       → ((i : ℕ) → i < n → rateAt sum-fees sum-sizes i ≡ total fs ss (listFrom (ancestorIn ws all i) positions 0))
       → Taking fs ss ws ds n room room sum-fees sum-sizes all 0 0
   unfolding ancestorSum givenBack elem anyOf
-  take-start sum-fees sum-sizes a b e = record {
+  take-start sum-fees sum-sizes e = record {
     out = [];
     goes = ap (λ (k : ℕ). rounds fs ss n (memAt ws) (memAt ds) k []) (omega arith);
     upto = omega arith;
@@ -110,8 +108,6 @@ module _
     sum = omega (arith, size-all ws n few all full);
     left = λ i. all-mem ws n few all full i ∙ sym (and-true (ltb i n));
     sums = λ i m. e i (ltb-true i n (sym (all-mem ws n few all full i) ∙ m)) ∙ ap (total fs ss) (ancestors-below ws n few all full i);
-    fees = a;
-    sizes = b;
     are = refl;
     long = refl;
   }
@@ -123,6 +119,10 @@ module _
       (todo : TxSet)
       (len round : ℕ)
       (h : Taking fs ss ws ds n room order sum-fees sum-sizes todo len round) where
+    -- what is left has its places
+    pub todo-places : (m : ℕ) → n ≤ m → Places todo m
+    todo-places m l i e = let b = ltb-true i n (and-left (ltb i n) (not (elem i (h .out))) (sym (h .left i) ∙ e)) in omega arith
+
     -- what is left is what remains
     todo-members : members todo ≡ remaining n (h .out)
     unfolding members remaining
@@ -210,6 +210,13 @@ module _
           go false true = refl
           go false false = refl
 
+      -- they have their places, and the rest has
+      pub some-places : (m : ℕ) → n ≤ m → Places some m
+      some-places m l i e = todo-places m l i (and-right (mem at i) (mem todo i) (sym (shared i) ∙ e))
+
+      pub rest-places : (m : ℕ) → n ≤ m → Places rest m
+      rest-places m l i e = todo-places m l i (and-left (mem todo i) (not (mem some i)) (sym (without i) ∙ e))
+
       -- there is room for them
       pub take-room : n ≤ length room → len + size some ≤ length order
       take-room l = omega (arith, parts, h .sum, h .long)
@@ -242,11 +249,11 @@ module _
             ∙ ap (λ (k : ℕ). drop k room) d
 
         -- one round
-        pub take-turn : (sum-fees' : List ℤ) (sum-sizes' : List ℕ) → length sum-fees' ≡ positions → length sum-sizes' ≡ positions → round < n
+        pub take-turn : (sum-fees' : List ℤ) (sum-sizes' : List ℕ) → round < n
             → GaveBack fs ss ds rest (take (end - len) (drop len last)) (rateAt sum-fees sum-sizes) (rateAt sum-fees' sum-sizes')
             → Taking fs ss ws ds n room last sum-fees' sum-sizes' rest end (round + 1)
         unfolding ancestorSum rounds new
-        take-turn sum-fees' sum-sizes' a b l back =
+        take-turn sum-fees' sum-sizes' l back =
             let many : length new ≡ size some = app .many in
             let next : n - round ≡ suc (n - (round + 1)) = omega arith in
             record {
@@ -264,8 +271,6 @@ module _
                   back i m
                   ∙ ap₂ (givenBack fs ss (λ t. memAt ds t i)) (h .sums i (was-left i m)) gone-is
                   ∙ sym (back-append fs ss (λ t. memAt ds t i) (total fs ss (listFrom (memAt ws i) n 0)) (h .out) new);
-              fees = a;
-              sizes = b;
               are =
                   app .are ∙ ap₂ (λ (x y : List ℕ). x ++ (new ++ y)) front behind ∙ sym (append-assoc (h .out) new (drop end room));
               long = kept ∙ h .long;
@@ -290,13 +295,24 @@ pub narrow-unfit : (fs : List ℤ) (room : List ℕ) → length room < length fs
 unfolding fits
 narrow-unfit fs room l = rw (lt-leb (length fs) (length room) l) (and-false (leb (length fs) positions))
 
--- else all that was taken
-pub fit : {fs : List ℤ} {ss ws ds room order : List ℕ} {sum-fees : List ℤ} {sum-sizes : List ℕ} {todo : TxSet} {len round : ℕ}
-    → (h : Taking fs ss ws ds (length fs) room order sum-fees sum-sizes todo len round) → length fs ≤ positions → length fs ≤ length room
+-- else there is room
+pub fit : (fs : List ℤ) (room : List ℕ) → length fs ≤ positions → length fs ≤ length room → fits fs room ≡ true
+unfolding fits
+fit fs room a b = ap₂ _&&_ (le-leb (length fs) positions a) (le-leb (length fs) (length room) b)
+
+pub fit-few : (fs : List ℤ) (room : List ℕ) → fits fs room ≡ true → length fs ≤ positions
+unfolding fits
+fit-few fs room e = leb-true (length fs) positions (and-left (leb (length fs) positions) (leb (length fs) (length room)) e)
+
+pub fit-room : (fs : List ℤ) (room : List ℕ) → fits fs room ≡ true → length fs ≤ length room
+unfolding fits
+fit-room fs room e = leb-true (length fs) (length room) (and-right (leb (length fs) positions) (leb (length fs) (length room)) e)
+
+-- and all that was taken is there
+pub all-taken : {fs : List ℤ} {ss ws ds room order : List ℕ} {sum-fees : List ℤ} {sum-sizes : List ℕ} {todo : TxSet} {len round : ℕ}
+    → (h : Taking fs ss ws ds (length fs) room order sum-fees sum-sizes todo len round) → fits fs room ≡ true
     → h .out ≡ rounds fs ss (length fs) (memAt ws) (memAt ds) (length fs) []
     → (len ≡ written fs ss (memAt ws) (memAt ds) room) × (order ≡ filled fs ss (memAt ws) (memAt ds) room)
-unfolding written filled fits ancestorOrder
-fit {fs} {room = room} {len = len} h a b e =
-    let t : (leb (length fs) positions && leb (length fs) (length room)) ≡ true =
-    ap₂ _&&_ (le-leb (length fs) positions a) (le-leb (length fs) (length room) b) in
+unfolding written filled ancestorOrder
+all-taken {fs} {room = room} {len = len} h t e =
     (rw t (h .count ∙ ap length e), rw t (h .are ∙ ap (λ (k : ℕ). h .out ++ drop k room) (h .count) ∙ ap (λ (l : List ℕ). overwrite l room) e))

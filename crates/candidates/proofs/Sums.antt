@@ -14,8 +14,7 @@ use Rattle.feefrac.specs.declared.FeeFrac.{FeeFrac}
 use Rattle.feefrac.specs.Rate.{difference, rateAt}
 use Rattle.feefrac.proofs.Lists.{put-same, put-other}
 use Rattle.txset.specs.declared.TxSet.{TxSet}
-use Rattle.txset.specs.Sets.{positions, mem, isEmpty, lowestOf}
-use Rattle.txset.proofs.Walk.{lowest-position}
+use Rattle.txset.specs.Sets.{mem, isEmpty, lowestOf}
 use Rattle.candidates.specs.Candidates.{givenBack}
 use Rattle.candidates.proofs.Changes.{Changing, change-turn}
 
@@ -44,12 +43,11 @@ module _ {fs gs : List ℤ} {ss ts : List ℕ} {d : ℕ} {r : FeeFrac} (h : Put 
 pub give-turn : (rate : FeeFrac) (to : TxSet) (was : ℕ → FeeFrac) (fs : List ℤ) (ss : List ℕ) (s t : TxSet) (d : ℕ)
     → isEmpty s ≡ false → d ≡ lowestOf s → ((j : ℕ) → mem t j ≡ (mem s j && not (eqb j (lowestOf s))))
     → (r : FeeFrac) → r ≡ difference (rateAt fs ss d) rate → (gs : List ℤ) (ts : List ℕ) → Put fs gs ss ts d r
-    → positions ≤ length fs → positions ≤ length ss
+    → d < length fs → d < length ss
     → Changing (λ x. difference x rate) to was (rateAt fs ss) s → Changing (λ x. difference x rate) to was (rateAt gs ts) t
 give-turn rate to was fs ss s t d some first less r is gs ts p a b =
-    let l : d < positions = rw first (lowest-position s some) in
     change-turn (λ x. difference x rate) to was (rateAt fs ss) (rateAt gs ts) s t d some first less
-    (read-same p (omega arith) (omega arith) ∙ is) (read-other p)
+    (read-same p a b ∙ is) (read-other p)
 
 -- ---- several given back
 
