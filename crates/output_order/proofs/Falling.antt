@@ -10,19 +10,11 @@ use borrow.Author.Tests.{eqb-true, eqb-false}
 use Rattle.lists.proofs.Bools.{clash, cases, or-either, and-right}
 use Rattle.feefrac.specs.declared.FeeFrac.{FeeFrac}
 use Rattle.feefrac.specs.Rate.{higher}
-use Rattle.feefrac.proofs.Higher.{above-least, least-above, least-least}
+use Rattle.feefrac.proofs.Higher.{above-least, least-above, least-least, higher-one}
 use Rattle.txset.specs.declared.TxSet.{TxSet}
 use Rattle.txset.specs.Sets.{isPosition, mem}
-use Rattle.output_order.specs.Steps.{Drops}
-
--- the first k fall, `last` is the last of them, and each of `drops` is below all before it, as is each behind it
-pub record Falling (rate : ℕ → FeeFrac) (last : FeeFrac) (k : ℕ) (drops : TxSet) : Type 0 where
-  pub some : 1 ≤ k
-  pub is : last ≡ rate (k - 1)
-  pub sized : (i : ℕ) → i < k → 0 < rate i .size
-  pub falls : (i j : ℕ) → i < j → j < k → higher (rate j) (rate i) ≡ false
-  pub within : (d : ℕ) → mem drops d ≡ true → d < k
-  pub below : (i d j : ℕ) → mem drops d ≡ true → i < d → d ≤ j → j < k → higher (rate i) (rate j) ≡ true
+use Rattle.output_order.specs.declared.Fall.{Fall}
+use Rattle.output_order.specs.Steps.{Drops, Falling, Fallen, FallsOn}
 
 -- of none there is nothing to say
 pub drops-none : (rate : ℕ → FeeFrac) (r : ℕ) (drops : TxSet) → ((i : ℕ) → mem drops i ≡ false) → Drops rate r drops
@@ -118,3 +110,44 @@ module _ {rate : ℕ → FeeFrac} {last : FeeFrac} {k : ℕ} {drops : TxSet} (h 
             (λ i c.
             least-above (rate i) (rate (k - 1)) (rate k) (h .falls i (k - 1) c (omega (arith, h .some))) down (h .sized i (omega arith)))
             down i l
+
+-- ---- what is known, and that it may be nothing
+
+-- of the first
+pub fallen-start : (rate : ℕ → FeeFrac) (last : FeeFrac) (drops : TxSet) → last ≡ rate 0 → ((i : ℕ) → mem drops i ≡ false)
+    → Fallen rate (record { last = last; drops = drops }) 1
+fallen-start rate last drops e none = record { ended = λ z. none; falling = λ n. falling-start rate last drops e n none }
+
+-- of as many as were asked for, where the rates are these
+pub fallen-done : {rate : ℕ → FeeFrac} {f : Fall} {k r : ℕ} (put : ℕ → FeeFrac) → Fallen rate f k → r ≤ k → ((i : ℕ) → i < r → put i ≡ rate i)
+    → Drops put r (f .drops)
+fallen-done {rate} {f} {k} {r} put h l same =
+    cases (eqb (f .last .size) 0)
+    (λ z. drops-none put r (f .drops) (h .ended (eqb-true (f .last .size) 0 z)))
+    (λ z.
+    let d = falling-done (h .falling (eqb-false (f .last .size) 0 z)) l in
+    record { falls = λ i d' j m a b c. rw (same i (omega arith), same j c) (d .falls i d' j m a b c) })
+
+module _ (f : Fall) (next : FeeFrac) (k : ℕ) where
+  -- nothing is known, and so it stays
+  pub falls-not : f .last .size ≡ 0 → FallsOn f next k f
+  falls-not z = record { known = λ rate e h. record { ended = h .ended; falling = λ n. absurd (n z) } }
+
+  -- nothing is known any more
+  pub falls-end : (last : FeeFrac) (drops : TxSet) → last .size ≡ 0 → ((i : ℕ) → mem drops i ≡ false) → FallsOn f next k (record { last = last; drops = drops })
+  falls-end last drops z none = record { known = λ rate e h. record { ended = λ _. none; falling = λ n. absurd (n z) } }
+
+  module _ (p : f .last .size ≡ 0 → ⊥) (n : next .size ≡ 0 → ⊥) where
+    -- one more that is lower
+    pub falls-below : higher (f .last) next ≡ true → (more : TxSet) → ((i : ℕ) → mem more i ≡ (mem (f .drops) i || (isPosition i && eqb i k)))
+        → FallsOn f next k (record { last = next; drops = more })
+    falls-below up more is = record {
+      known = λ rate e h. record {
+        ended = λ z. absurd (n z);
+        falling = λ _. falling-drops (h .falling p) e n (higher-one (f .last) next up) up more is;
+      };
+    }
+
+    -- one more that is not
+    pub falls-level : higher next (f .last) ≡ false → FallsOn f next k (record { last = next; drops = f .drops })
+    falls-level low = record { known = λ rate e h. record { ended = λ z. absurd (n z); falling = λ _. falling-stays (h .falling p) e n low } }

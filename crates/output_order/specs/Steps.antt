@@ -1,7 +1,7 @@
 -- What the functions below output_order speak of: no contract outside this crate cites these. Assumes nothing.
-use Prim.Native.Nat.{ℕ, _≤_, _<_}
+use Prim.Native.Nat.{ℕ, _+_, _-_, _≤_, _<_}
 use mathlib.Core.Path.{_≡_}
-use mathlib.Core.Bool.{Bool, true, not, _&&_}
+use mathlib.Core.Bool.{Bool, true, false, not, _&&_}
 use mathlib.Core.List.{List, [], _∷_, _++_}
 use lib.ListN.{length, getD}
 use lib.Dec.{ltb}
@@ -16,6 +16,7 @@ use Rattle.chunking.specs.declared.Chunk.{Chunk}
 use Rattle.chunking.specs.Chunks.{swallow}
 use Rattle.chunking.specs.Orders.{chunkAt}
 use Rattle.output_order.specs.declared.Piece.{Piece}
+use Rattle.output_order.specs.declared.Fall.{Fall}
 use Rattle.output_order.specs.Output.{chunkRate}
 
 -- `all` is the set of the n members, at most 64
@@ -113,3 +114,21 @@ pub record Below (rate : ℕ → FeeFrac) (left drops : TxSet) : Type 0 where
 -- the same of the first r
 pub record Drops (rate : ℕ → FeeFrac) (r : ℕ) (drops : TxSet) : Type 0 where
   pub falls : (i d j : ℕ) → mem drops d ≡ true → i < d → d ≤ j → j < r → higher (rate i) (rate j) ≡ true
+
+-- the first k fall, `last` is the last of them, and each of `drops` is below all before it, as is each behind it
+pub record Falling (rate : ℕ → FeeFrac) (last : FeeFrac) (k : ℕ) (drops : TxSet) : Type 0 where
+  pub some : 1 ≤ k
+  pub is : last ≡ rate (k - 1)
+  pub sized : (i : ℕ) → i < k → 0 < rate i .size
+  pub falls : (i j : ℕ) → i < j → j < k → higher (rate j) (rate i) ≡ false
+  pub within : (d : ℕ) → mem drops d ≡ true → d < k
+  pub below : (i d j : ℕ) → mem drops d ≡ true → i < d → d ≤ j → j < k → higher (rate i) (rate j) ≡ true
+
+-- what is known of the first k: that they fall, or nothing where the last has the size 0
+pub record Fallen (rate : ℕ → FeeFrac) (f : Fall) (k : ℕ) : Type 0 where
+  pub ended : f .last .size ≡ 0 → (i : ℕ) → mem (f .drops) i ≡ false
+  pub falling : (f .last .size ≡ 0 → ⊥) → Falling rate (f .last) k (f .drops)
+
+-- f has become g by one more, the k-th
+pub record FallsOn (f : Fall) (next : FeeFrac) (k : ℕ) (g : Fall) : Type 0 where
+  pub known : (rate : ℕ → FeeFrac) → next ≡ rate k → Fallen rate f k → Fallen rate g (k + 1)

@@ -11,7 +11,7 @@ ghost use Rattle.feefrac.specs.Rate.{rateAt};
 ghost use Rattle.txset.specs.Sets.{positions, mem, memAt};
 ghost use Rattle.chunking.specs.Orders.{chunksOf};
 ghost use Rattle.output_order.specs.Output.{written, filled};
-ghost use Rattle.output_order.specs.Steps.{All, Stack, Cut, Alone, Swallowed, Summed, Below, Drops};
+ghost use Rattle.output_order.specs.Steps.{All, Stack, Cut, Alone, Swallowed, Summed, Below, Drops, FallsOn};
 ghost use Rattle.output_order.specs.Rounds.{chosen, foundOf, sumAbove, chunkOf, memberOf, Standing, PutOut};
 use feefrac::FeeFrac;
 use feefrac::compare_sizes;
@@ -32,6 +32,13 @@ enum Choice {
 struct Out {
     done: TxSet,
     len: usize,
+}
+
+// Rates that fall: the last of them, and which are below all before them. A last one of size 0 says that they do not fall; there is no more
+// then.
+struct Fall {
+    last: FeeFrac,
+    drops: TxSet,
 }
 
 // A chunk on its way through the cut: its feerate sum, its members, the ancestors that these have outside it, its highest position, and
@@ -84,8 +91,7 @@ pub fn output_order(
         &mut sum_fees,
         &mut sum_sizes,
     );
-    sum_chunks(fees, sizes, &sets, count, &mut sum_fees, &mut sum_sizes);
-    let drops = find_drops(&sum_fees, &sum_sizes, count);
+    let drops = survey(fees, sizes, &sets, count, &mut sum_fees, &mut sum_sizes);
     let mut left = TxSet::full(count);
     let mut out = Out {
         done: TxSet::empty(),
@@ -209,54 +215,65 @@ fn higher_of(s: usize, t: usize) -> usize
     s
 }
 
-// Of each of the first `count` sets the feerate sum.
-fn sum_chunks(
+// Writes the feerate sum of each of the first `count` sets. Answers those whose rates are below all that come before them, where it can be
+// told by neighbours; none otherwise.
+fn survey(
     fees: &[i64],
     sizes: &[u64],
     sets: &[u64],
     count: usize,
     sum_fees: &mut [i64],
     sum_sizes: &mut [u64],
-)
+) -> TxSet
     requires { ⌜ (count ≤ positions) × ((length (now «sum_fees») ≡ positions) × (length (now «sum_sizes») ≡ positions)) ⌝ }
     ensures { λ _. ⌜ Summed (now (fees .entry)) (now (sizes .entry)) (now (sets .entry)) (now («sum_fees» .exit)) (now («sum_sizes» .exit)) count ⌝ }
+    ensures { λ r. ⌜ Drops (rateAt (now («sum_fees» .exit)) (now («sum_sizes» .exit))) count r ⌝ }
 {
-    let mut k: usize = 0;
-    // The first k have their sums.
+    let first = set_feerate(fees, sizes, TxSet::at(sets, 0));
+    first.put(sum_fees, sum_sizes, 0);
+    let mut fall = Fall {
+        last: first,
+        drops: TxSet::empty(),
+    };
+    let mut k: usize = 1;
+    // The first k have their sums, and `fall` is what is known of these.
     while k < count {
-        set_feerate(fees, sizes, TxSet::at(sets, k)).put(sum_fees, sum_sizes, k);
+        let rate = set_feerate(fees, sizes, TxSet::at(sets, k));
+        rate.put(sum_fees, sum_sizes, k);
+        fall = fall_on(fall, rate, k);
         k += 1;
     }
+    fall.drops
 }
 
-// Of `count` rates those below all that come before them, where it can be told by neighbours: no size is 0, since such rates do not chain,
-// and none is higher than the one before it. Nothing otherwise.
-fn find_drops(sum_fees: &[i64], sum_sizes: &[u64], count: usize) -> TxSet
-    requires { ⌜ count ≤ positions ⌝ }
-    ensures { λ r. ⌜ Drops (rateAt (now («sum_fees» .entry)) (now («sum_sizes» .entry))) count r ⌝ }
+// One rate more, the k-th. It ends where a size is 0, since such rates do not chain, or a rate is higher than the one before it.
+fn fall_on(fall: Fall, rate: FeeFrac, k: usize) -> Fall
+    ensures { λ r. ⌜ FallsOn fall rate k r ⌝ }
 {
-    let mut drops = TxSet::empty();
-    let mut last = FeeFrac::at(sum_fees, sum_sizes, 0);
+    let last = fall.last;
+    let drops = fall.drops;
     if last.size == 0 {
-        return drops;
+        return fall;
     }
-    let mut k: usize = 1;
-    // `last` is the rate before k; the first k fall, and `drops` has those of them that are below all before them.
-    while k < count {
-        let rate = FeeFrac::at(sum_fees, sum_sizes, k);
-        if rate.size == 0 {
-            return TxSet::empty();
-        }
-        if rate.higher_rate(last) {
-            return TxSet::empty();
-        }
-        if last.higher_rate(rate) {
-            drops = drops.insert(k);
-        }
-        last = rate;
-        k += 1;
+    if rate.size == 0 {
+        return Fall {
+            last: rate,
+            drops: TxSet::empty(),
+        };
     }
-    drops
+    if last.higher_rate(rate) {
+        return Fall {
+            last: rate,
+            drops: drops.insert(k),
+        };
+    }
+    if rate.higher_rate(last) {
+        return Fall {
+            last: FeeFrac::zero(),
+            drops: TxSet::empty(),
+        };
+    }
+    Fall { last: rate, drops }
 }
 
 // Of the chunks left whose outside ancestors are out the one of the highest rank, then the lowest highest position. Past one of `drops` none

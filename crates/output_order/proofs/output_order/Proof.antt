@@ -38,24 +38,23 @@ cut-requires c κs =
     (whole full, (full .before .before .if2 .left, record { sets-long = refl; outsides-long = refl; tops-long = refl; fees-long = refl; sizes-long = refl }))
 
 -- the cut, and the sums, from the head of the loop
-abbrev made : tie.After-sum-chunks Inv-loop μ-loop → tie.After-cut Inv-loop μ-loop
+abbrev made : tie.After-survey Inv-loop μ-loop → tie.After-cut Inv-loop μ-loop
 made c = c .before .before .before .before .before .before .before .before .before
 
-abbrev summed : tie.At-loop Inv-loop μ-loop → tie.After-sum-chunks Inv-loop μ-loop
-summed c = c .before .before .before .before .before .before .before .before
+abbrev summed : tie.At-loop Inv-loop μ-loop → tie.After-survey Inv-loop μ-loop
+summed c = c .before .before .before .before .before
 
 loop-holds : tie.Need-loop-holds Inv-loop μ-loop
 loop-holds c =
-    let drops = c .before .before in
-    let sums = drops .before .before .before .before .before in
+    let sums = c .before .before .before .before in
     let cut = made sums in
     let full = cut .before .before .before .before .before .before in
     rounds-start _ _ _
     (record {
       whole = whole full;
       chunks = cut .cut .ensures;
-      rates = chunk-rates _ (whole full .few) (cut .cut .ensures) (sums .sum-chunks .ensures);
-      falling = drops .find-drops .ensures;
+      rates = chunk-rates _ (whole full .few) (cut .cut .ensures) (sums .survey .ensures .0);
+      falling = sums .survey .ensures .1;
       short = full .before .before .if2 .left;
       long = cut .cut .kept .1 .1 .1 .1 .1 .1 .1 .0;
     })
@@ -111,15 +110,12 @@ output-order-spec =
     (λ c. sym (c .before .before .before .before .before .before .before .cut .kept .1 .1 .1 .1 .1 .1 .1 .1 .0))
     (λ c. sym (c .before .before .before .before .before .before .before .before .cut .kept .1 .1 .1 .1 .1 .1 .1 .1 .1 .0))
     (λ c κs. let cut = c .before .before .before .before .before .before .before .before in (cut .cut .ensures .few, (cut .cut .kept .1 .1 .1 .1 .1 .1 .1 .1 .0, cut .cut .kept .1 .1 .1 .1 .1 .1 .1 .1 .1 .0)))
-    (λ c. let sums = c .before .before .before in sym (sums .sum-chunks .kept .1 .1 .1 .1 .0 ∙ made sums .cut .kept .1 .1 .1 .1 .1 .1 .1 .1 .0))
-    (λ c. let sums = c .before .before .before .before in sym (sums .sum-chunks .kept .1 .1 .1 .1 .1 .0 ∙ made sums .cut .kept .1 .1 .1 .1 .1 .1 .1 .1 .1 .0))
-    (λ c κs. made (c .before .before .before .before) .cut .ensures .few)
     (λ c κs. search needs)
     (λ c κs. search needs)
     loop-holds
     (λ c. sym (made (summed (c .before .before .before)) .cut .kept .1 .1 .1 .1 .1 .1 .0))
-    (λ c. let sums = summed (c .before .before .before .before) in sym (sums .sum-chunks .kept .1 .1 .1 .1 .0 ∙ made sums .cut .kept .1 .1 .1 .1 .1 .1 .1 .1 .0))
-    (λ c. let sums = summed (c .before .before .before .before .before) in sym (sums .sum-chunks .kept .1 .1 .1 .1 .1 .0 ∙ made sums .cut .kept .1 .1 .1 .1 .1 .1 .1 .1 .1 .0))
+    (λ c. let sums = summed (c .before .before .before .before) in sym (sums .survey .kept .1 .1 .1 .1 .0 ∙ made sums .cut .kept .1 .1 .1 .1 .1 .1 .1 .1 .0))
+    (λ c. let sums = summed (c .before .before .before .before .before) in sym (sums .survey .kept .1 .1 .1 .1 .1 .0 ∙ made sums .cut .kept .1 .1 .1 .1 .1 .1 .1 .1 .1 .0))
     (λ c. sym (made (summed (c .before .before .before .before .before .before)) .cut .kept .1 .1 .1 .1 .1 .1 .1 .0))
     (λ c κs. let inv = c .before .before .before .before .before .before .loop .inv in (inv .known .long, rounds-below inv))
     (λ c. search needs)
