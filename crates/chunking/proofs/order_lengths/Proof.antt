@@ -1,50 +1,18 @@
-use Prim.Native.Nat.{_≤_}
-use native.Mathlib.Omega.{arith}
-use mathlib.Core.Path.{_≡_, sym}
-use lib.ListN.{length, take}
-use lib.Seq.{length-take-le}
 use borrow.Author.Needs.{needs}
-use Rattle.txset.specs.Sets.{positions}
-use Rattle.chunking.proofs.Orders.{lengths-left, too-long, cramped, gathered-lengths, same-long}
+use Rattle.chunking.proofs.Orders.{lengths-left, too-long, cramped}
 use Rattle.chunking.proofs.order_lengths.Statement.{statement}
 use Rattle.chunking.proofs.order_lengths.Tie as tie
 
--- both arrays have a place for each member, and so has the room
-module _ (c : tie.After-gather) where
-  abbrev start : tie.Start
-  start = c .before .before .before .before .before .before .before .before
+listed-lengths-requires : tie.Need-listed-lengths-requires
+listed-lengths-requires c κs =
+    let t = c .before .before .before in
+    record { few = t .before .before .if1 .left; fees = t .if3 .taken; sizes = t .if3 .taken; wide = t .before .if2 .left }
 
-  few : length (start .args .order .now) ≤ positions
-  few = c .before .before .before .before .if1 .left
-
-  wide : length (start .args .order .now) ≤ length (start .args .lens .now)
-  wide = c .before .before .before .if2 .left
-
-  listed-fees : length (start .args .order .now) ≤ length (c .gather .last .1 .1 .1 .0)
-  listed-fees = omega (arith, few, c .gather .kept .1 .1 .1 .0)
-
-  as-long : length (take (length (start .args .order .now)) (c .gather .last .1 .1 .1 .0)) ≡ length (start .args .order .now)
-  as-long = length-take-le _ _ listed-fees
-
-  listed-sizes : length (start .args .order .now) ≤ length (c .gather .last .1 .1 .1 .1 .0)
-  listed-sizes = omega (arith, few, c .gather .kept .1 .1 .1 .1 .0)
-
-slice-aggregate-write-chunks : tie.Need-slice-aggregate-write-chunks
-slice-aggregate-write-chunks c = sym (as-long (c .before .before .before))
-
-slice-aggregate-write-chunks-2 : tie.Need-slice-aggregate-write-chunks-2
-slice-aggregate-write-chunks-2 c = sym (length-take-le _ _ (listed-sizes (c .before .before .before .before)))
-
-write-chunks-requires : tie.Need-write-chunks-requires
-write-chunks-requires c κs =
-    let g = c .before .before .before .before .before in
-    (same-long (g .gather .ensures) (listed-fees g) (listed-sizes g), (omega (arith, as-long g, few g), omega (arith, as-long g, wide g)))
-
-returns-3 : tie.Need-returns-3
-returns-3 c =
-    let w = c .before .before in
-    let g = w .before .before .before .before .before .before in
-    gathered-lengths (g .gather .ensures) (listed-fees g) (listed-sizes g) _ (few g) (wide g) (w .write-chunks .ensures .0) (w .write-chunks .ensures .1)
+listed-lengths-requires-2 : tie.Need-listed-lengths-requires-2
+listed-lengths-requires-2 c κs =
+    let e = c .before .before .before .before in
+    let few = e .before .if1 .left in
+    record { few = few; fees = few; sizes = few; wide = e .if2 .left }
 
 pub order-lengths-spec : {M : Type 1} → statement M
 order-lengths-spec =
@@ -54,11 +22,11 @@ order-lengths-spec =
     (λ c. lengths-left _ _ _ _ (cramped _ _ (c .if2 .taken)))
     (λ c. search needs)
     (λ c. search needs)
-    (λ c κs. search needs)
+    listed-lengths-requires
     (λ c. search needs)
-    slice-aggregate-write-chunks
+    (λ c. c .before .before .before .before .listed-lengths .ensures)
     (λ c. search needs)
-    slice-aggregate-write-chunks-2
-    write-chunks-requires
     (λ c. search needs)
-    returns-3)
+    listed-lengths-requires-2
+    (λ c. search needs)
+    (λ c. c .before .before .before .before .listed-lengths2 .ensures))
