@@ -1,5 +1,5 @@
--- What a reader will ask of a template, for any sound pool and whatever it is asked with. No proof of a function cites these. Assumes
--- nothing.
+-- What a reader will ask of a template, for any sound pool and whatever it is asked with. (One of these, `template-few`, the call's own proof
+-- cites too.) Assumes nothing.
 use mathlib.Core.Path.{_≡_, refl, sym, ap, _∙_, subst}
 use mathlib.Core.Bool.{true, false, false≢true}
 use mathlib.Core.Logic.{_⊎_, inl, inr, ⊎-elim}
