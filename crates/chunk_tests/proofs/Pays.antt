@@ -3,7 +3,7 @@
 use Prim.Native.Nat.{_<_}
 use native.Mathlib.Nat.{le-of-lt}
 use native.Mathlib.Omega.{arith}
-use mathlib.Core.Path.{_≡_, refl, sym, _∙_}
+use mathlib.Core.Path.{_≡_, refl, sym, ap, _∙_}
 use mathlib.Core.Bool.{Bool, true, false, cond, not, _&&_, _||_}
 use lib.IntN.{ℤ, pos, negsuc}
 use lib.Signed.{ltZ}
@@ -55,6 +55,12 @@ unfolding feeOrder
 fee-greater f g = tests-greater (ltZ g f) (ltZ f g)
 
 module _ (a b : FeeFrac) where
+  pub pays-asked : paysMore a b ≡ (higher a b || (not (higher b a) && ltZ (b .fee) (a .fee)))
+  unfolding paysOrder rateOrder
+  pays-asked =
+      tests-then (higher a b) (higher b a) (feeOrder (a .fee) (b .fee))
+      ∙ ap (λ (t : Bool). higher a b || (not (higher b a) && t)) (fee-greater (a .fee) (b .fee))
+
   pub pays-above : higher a b ≡ true → paysMore a b ≡ true
   unfolding paysOrder
   pays-above e = rw (rate-above a b e)

@@ -14,13 +14,11 @@ pub const MAX_BLOCK_SIGOPS_COST: u64 = 80_000;
 pub fn pays_more(a: FeeFrac, b: FeeFrac) -> bool
     ensures { λ r. ⌜ r ≡ isGreater (paysOrder a b) ⌝ }
 {
-    if a.higher_rate(b) {
-        return true;
-    }
-    if b.higher_rate(a) {
-        return false;
-    }
-    b.fee < a.fee
+    // All is asked at once: no processor could guess what a sort is told.
+    let above = a.higher_rate(b);
+    let below = b.higher_rate(a);
+    let more = b.fee < a.fee;
+    above | (!below & more)
 }
 
 pub fn is_negative(rate: FeeFrac) -> bool
