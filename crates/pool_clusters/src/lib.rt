@@ -166,7 +166,8 @@ fn cluster(table: &[u64], all: &[u64], a: usize, limit: usize) -> Part
 // The members of the cluster of slot a, where the cluster is within the table's limits: none where it is not, or there is no such slot.
 pub fn cluster_within(table: &[u64], a: usize) -> Limited
     ensures { λ r. ⌜ r .within ≡ (isLegal (length (now (table .entry))) && (limitsInRange (poolOf (now (table .entry)) .limits)
-        && (ltb a (slotCount (poolOf (now (table .entry)))) && isWithin (poolOf (now (table .entry))) (inCluster (poolOf (now (table .entry))) a)))) ⌝ }
+        && (ltb a (slotCount (poolOf (now (table .entry))))
+        && isWithin (poolOf (now (table .entry))) (inCluster (poolOf (now (table .entry))) a)))) ⌝ }
     ensures { λ r. ⌜ ((i : ℕ) → hasIn (r .found) i ≡ (r .within && inCluster (poolOf (now (table .entry))) a i)) ⌝ }
 {
     let none = Limited {

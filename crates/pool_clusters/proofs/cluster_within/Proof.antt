@@ -78,20 +78,24 @@ gathered : (k : tie.After-cluster)
     → Gathered (pool (slotOf k)) (inCluster (pool (slotOf k)) (start (slotOf k) .args .a)) (pool (slotOf k) .limits .count) (k .cluster .result)
 gathered k =
     let e = slotOf k in
-    subst (λ (l : Limits). Gathered (pool e) (inCluster (pool e) (start e .args .a)) (l .count) (k .cluster .result)) (limits-are e) (k .cluster .ensures)
+    subst (λ (l : Limits). Gathered (pool e) (inCluster (pool e) (start e .args .a)) (l .count) (k .cluster .result)) (limits-are e)
+    (k .cluster .ensures)
 
 -- ---- the needs
 
 returns : tie.Need-returns
 returns c =
     let args = c .before .before .before .args in
-    (no-length (args .table .now) (args .a) (sym (c .before .is-legal .ensures) ∙ not-true (c .before .is-legal .result) (c .if1 .taken)), hasIn-zeros 16)
+    let illegal = sym (c .before .is-legal .ensures) ∙ not-true (c .before .is-legal .result) (c .if1 .taken) in
+    (no-length (args .table .now) (args .a) illegal, hasIn-zeros 16)
 
 returns-2 : tie.Need-returns-2
 returns-2 c =
     let args = c .before .before .before .before .before .before .args in (
       no-limits (args .table .now) (args .a)
-          (ap limitsInRange (sym (c .before .before .of .ensures)) ∙ sym (c .before .in-range .ensures) ∙ not-true (c .before .in-range .result) (c .if2 .taken)),
+          (ap limitsInRange (sym (c .before .before .of .ensures))
+          ∙ sym (c .before .in-range .ensures)
+          ∙ not-true (c .before .in-range .result) (c .if2 .taken)),
       hasIn-zeros 16,
     )
 
@@ -104,7 +108,10 @@ cluster-requires : tie.Need-cluster-requires
 cluster-requires c κs =
     let all = c .before in
     let e = all .before in
-    (all-slots (start e .args .table .now) (all .below .result) (e .before .slots .result) (legal e) (e .before .slots .ensures) (search needs) (all .below .ensures), inside e)
+    let t = start e .args .table .now in (
+      all-slots t (all .below .result) (e .before .slots .result) (legal e) (e .before .slots .ensures) (search needs) (all .below .ensures),
+      inside e,
+    )
 
 returns-4 : tie.Need-returns-4
 returns-4 c =

@@ -1,6 +1,6 @@
 use mathlib.Core.Path.{_≡_, ap₂, _∙_}
 use mathlib.Core.Bool.{false}
-use Prim.Native.Nat.{ℕ, _+_, _-_, _*_, _≤_, _<_}
+use Prim.Native.Nat.{ℕ, _+_, _-_, _*_, _^_, _≤_, _<_}
 use native.Mathlib.Omega.{arith}
 use lib.Bits.{bitAnd, bitOr, and-le-l}
 use lib.ListN.{getD}
@@ -41,11 +41,16 @@ loop-again c =
     λ d l.
     ap₂ (λ (x y : ℕ). has (bitAnd (getD (st .args .all .now) j 0) (bitOr x y)) d) (words .before .link-word .ensures) (words .link-word2 .ensures)
     ∙ near-word p (st .args .a) (st .args .all .now) (st .pre .0) j d l in
+    let fits : w < 2 ^ 64 = omega (
+      arith,
+      and-le-l (getD (st .args .all .now) j 0) (bitOr (words .before .link-word .result) (words .link-word2 .result)),
+      all .shared-slice-known3 .given j .fits,
+    ) in
     let l = test .loop-test .taken in
     let inv = head .loop .inv in (
       grown-turn (isLinked p (st .args .a)) w word l (inv .0) (st .pre .1 .0),
       queued-turn (isLinked p (st .args .a)) w word l (inv .0) (st .pre .1 .0) (inv .1) (st .pre .1 .1)
-          (omega (arith, and-le-l (getD (st .args .all .now) j 0) (bitOr (words .before .link-word .result) (words .link-word2 .result)), all .shared-slice-known3 .given j .fits))
+          fits
           (c .before .slice-known3 .given j .fits),
     )
 

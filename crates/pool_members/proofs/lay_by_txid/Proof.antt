@@ -225,7 +225,8 @@ loop-again-2 c =
             kept = row-kept _ (membersAt list) _ _ (room (list .before .before .before)) (told .here);
             here = listed-here else;
             starts = subst (λ (xs : List ℕ). StoredAt xs (λ k. loop .end) (loop .firsts) firsts) (part-is else) (note .note-all .ensures .0);
-            parents = subst (λ (xs : List ℕ). StoredAt xs (λ k. parentsOf p xs (getD xs k 0)) (loop .ups) ups) (part-is else) (note .note-all .ensures .1);
+            parents =
+                subst (λ (xs : List ℕ). StoredAt xs (λ k. parentsOf p xs (getD xs k 0)) (loop .ups) ups) (part-is else) (note .note-all .ensures .1);
             places-long = note .note-all .kept .1 .1 .1 .0;
             seen-long = told .seen-long;
             told = told .told;
@@ -245,7 +246,8 @@ returns-2 c =
     let l : length (slotsByTxid (poolOf t)) ≤ loop .loop .i =
     subst (λ (xs : List ℕ). length xs ≤ loop .loop .i) (st .pre .1 .0) (c .loop-test .left) in
     let f = few t (st .pre .0) in
-    (sym (laying-within f (st .pre .0 .links) (loop .loop .i) l (loop .loop .inv .1)), λ _. laying-done f (st .pre .0 .links) (loop .loop .i) l (loop .loop .inv .1))
+    let m = st .pre .0 .links in
+    (sym (laying-within f m (loop .loop .i) l (loop .loop .inv .1)), λ _. laying-done f m (loop .loop .i) l (loop .loop .inv .1))
 
 abbrev failedAt : tie.Then2 Inv-loop μ-loop → tie.At-loop Inv-loop μ-loop
 failedAt c = loopOf (elseOf (c .before .before .before .before))

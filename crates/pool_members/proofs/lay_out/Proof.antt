@@ -172,10 +172,19 @@ lay-by-txid-requires c κs =
       ),
     )
 
+abbrev rankAt : tie.After-lay-by-txid → tie.After-rank-all
+rankAt c = c .before .before .before .before .before .before .before .before .before .before
+
+abbrev elseAt : tie.After-lay-by-txid → tie.Else2
+elseAt c = elseOf (rankAt c .before .before .before .before .before)
+
+abbrev layAt : tie.After-slice-known17 → tie.After-lay-by-txid
+layAt c = c .before .before .before .before .before .before .before .before .before .before
+
 returns-3 : tie.Need-returns-3
 returns-3 c =
-    let lay = c .before .before .before .before .before .before .before .before .before .before in
-    let else = elseOf (lay .before .before .before .before .before .before .before .before .before .before .before .before .before .before .before) in
+    let lay = layAt c in
+    let else = elseAt lay in
     let p = poolOf (s else .args .table .now) in (
       lay .lay-by-txid .ensures .0 ∙ sym (stood (sortAt else) ∙ ap (λ (b : Bool). b && clustersWithin p) (stands else)),
       lay .lay-by-txid .ensures .1,
@@ -202,12 +211,12 @@ lay-out-spec =
     (λ c. within (c .before .before .before .before .before .before .before))
     (λ c. sym (length-take-le _ _ (within (c .before .before .before .before .before .before .before .before))))
     lay-by-txid-requires
-    (λ c. c .before .before .before .before .before .before .before .before .before .before .lay-by-txid .kept .1 .1 .1 .1 .0)
-    (λ c. c .before .before .before .before .before .before .before .before .before .before .lay-by-txid .kept .1 .1 .1 .1 .1 .0 ∙ length-set (s (elseOf (c .before .before .before .before .before .before .before .before .before .before .before .before .before .before .before .before .before .before .before .before .before .before .before .before .before)) .args .bounds .now) 0 0)
-    (λ c. c .before .before .before .before .before .before .before .before .before .before .lay-by-txid .kept .1 .1 .1 .1 .1 .1 .0)
-    (λ c. c .before .before .before .before .before .before .before .before .before .before .before .before .before .before .before .before .before .before .before .before .before .before .before .before .before .unpack-all .kept .1 .0)
-    (λ c. c .before .before .before .before .before .before .before .before .before .before .before .before .before .before .before .before .before .before .before .before .rank-all .kept .1 .0)
-    (λ c. c .before .before .before .before .before .before .before .before .before .before .lay-by-txid .kept .1 .1 .1 .0)
-    (λ c. c .before .before .before .before .before .before .before .before .before .before .lay-by-txid .kept .1 .1 .1 .1 .1 .1 .1 .0 ∙ sortAt (elseOf (c .before .before .before .before .before .before .before .before .before .before .before .before .before .before .before .before .before .before .before .before .before .before .before .before .before)) .sort-linked .kept .1 .0)
-    (λ c. sortAt (elseOf (c .before .before .before .before .before .before .before .before .before .before .before .before .before .before .before .before .before .before .before .before .before .before .before .before .before)) .sort-linked .kept .1 .1 .0)
+    (λ c. layAt c .lay-by-txid .kept .1 .1 .1 .1 .0)
+    (λ c. layAt c .lay-by-txid .kept .1 .1 .1 .1 .1 .0 ∙ length-set (s (elseAt (layAt c)) .args .bounds .now) 0 0)
+    (λ c. layAt c .lay-by-txid .kept .1 .1 .1 .1 .1 .1 .0)
+    (λ c. rankAt (layAt c) .before .before .before .before .before .unpack-all .kept .1 .0)
+    (λ c. rankAt (layAt c) .rank-all .kept .1 .0)
+    (λ c. layAt c .lay-by-txid .kept .1 .1 .1 .0)
+    (λ c. layAt c .lay-by-txid .kept .1 .1 .1 .1 .1 .1 .1 .0 ∙ sortAt (elseAt (layAt c)) .sort-linked .kept .1 .0)
+    (λ c. sortAt (elseAt (layAt c)) .sort-linked .kept .1 .1 .0)
     returns-3)
