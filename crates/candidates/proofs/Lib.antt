@@ -3,6 +3,7 @@ pub mod Changes
 pub mod Sums
 pub mod Selection
 pub mod Insertion
+pub mod Resuming
 pub mod Append
 pub mod Rounds
 pub mod Kept

@@ -1,6 +1,7 @@
 -- The rounds of specs/Candidates.antt as the code runs them. Assumes nothing.
 use mathlib.Core.Path.{_≡_, refl, sym, ap, ap₂, _∙_}
-use mathlib.Core.Bool.{Bool, true, false, not, _&&_, and-true, and-false, and-comm, and-assoc}
+use mathlib.Core.Logic.{⊎-elim}
+use mathlib.Core.Bool.{Bool, true, false, not, _&&_, _||_, and-true, and-false, and-comm, and-assoc}
 use mathlib.Core.List.{List, [], _∷_, _++_, append-assoc, append-nil}
 use Prim.Native.Nat.{ℕ, zero, suc, _+_, _-_, _≤_, _<_}
 use native.Mathlib.Omega.{arith}
@@ -14,20 +15,21 @@ use Rattle.feefrac.specs.Rate.{rateAt, rankOrder, isGreater}
 use Rattle.txset.specs.declared.TxSet.{TxSet}
 use Rattle.lists.specs.Below.{bit, countFrom, listFrom}
 use Rattle.lists.specs.Lists.{elem, anyOf, overwrite}
-use Rattle.txset.specs.Sets.{positions, isPosition, mem, members, size, isEmpty, setAt, memAt}
-use Rattle.txset.proofs.Sets.{members-elem, size-members, full-mem, size-most}
-use Rattle.txset.proofs.Walk.{walk-done}
+use Rattle.txset.specs.Sets.{positions, isPosition, mem, members, size, isEmpty, lowestOf, setAt, memAt}
+use Rattle.txset.proofs.Sets.{members-elem, size-members, full-mem, size-most, empty-mem}
+use Rattle.txset.proofs.Walk.{walk-done, lowest-mem, size-empty}
 use Rattle.feeset.specs.Total.{total}
 use Rattle.feeset.specs.Scan.{best, ranksAbove}
 use Rattle.candidates.specs.Candidates.{givenBack, ancestorSum, remaining, candidate, remainingAncestors, fewerAncestors}
 use Rattle.candidates.specs.Candidates.{appendAncestors, appendFor, rounds, ancestorOrder, fits, written, filled}
-use Rattle.candidates.specs.Steps.{ancestorIn, Places, Counted, fewerBy, sorted, GaveBack, Appended}
-use Rattle.lists.proofs.Bools.{and-left, and-right}
+use Rattle.candidates.specs.Steps.{ancestorIn, Places, HeldBelow, Resumes, Counted, fewerBy, sorted, GaveBack, ChangedOnly, Appended}
+use Rattle.lists.proofs.Bools.{clash, and-left, and-right, or-left, or-right, or-either, is-false}
 use Rattle.lists.proofs.Below.{elem-below}
 use Rattle.lists.proofs.Lists.{without-append}
 use Rattle.lists.proofs.Ranges.{list-below, count-below, count-parts}
 use Rattle.feeset.proofs.Scan.{best-ext}
 use Rattle.candidates.proofs.Sums.{back-append}
+use Rattle.candidates.proofs.Resuming.{lowest-first, resumes-first, resumes-on}
 
 -- all members are out: nothing more is taken
 pub rounds-none : (fs : List ℤ) (ss : List ℕ) (n : ℕ) (anc desc : ℕ → ℕ → Bool) (k : ℕ) (out : List ℕ) → remaining n out ≡ []
@@ -37,6 +39,13 @@ rounds-none fs ss n anc desc zero out e = refl
 rounds-none fs ss n anc desc (suc k) out e =
     ap (λ (l : List ℕ). rounds fs ss n anc desc k (appendFor n anc out (best (ranksAbove (ancestorSum fs ss n anc desc out)) l))) e
     ∙ rounds-none fs ss n anc desc k out e
+
+-- a round that takes nothing: so do all
+rounds-stuck : (fs : List ℤ) (ss : List ℕ) (n : ℕ) (anc desc : ℕ → ℕ → Bool) (k : ℕ) (out : List ℕ)
+    → appendFor n anc out (candidate fs ss n anc desc out) ≡ out → rounds fs ss n anc desc k out ≡ out
+unfolding rounds
+rounds-stuck fs ss n anc desc zero out e = refl
+rounds-stuck fs ss n anc desc (suc k) out e = ap (rounds fs ss n anc desc k) e ∙ rounds-stuck fs ss n anc desc k out e
 
 -- the members are the first n positions, and the sets are given by words
 module _ (ws : List ℕ) (n : ℕ) (few : n ≤ positions) (all : TxSet) (full : (i : ℕ) → mem all i ≡ (isPosition i && ltb i n)) where
@@ -73,15 +82,19 @@ pub record Taking
     (room order : List ℕ)
     (sum-fees : List ℤ)
     (sum-sizes : List ℕ)
+    (held : List ℕ)
     (todo : TxSet)
-    (len round : ℕ) : Type 0 where
+    (from len : ℕ) : Type 0 where
   pub out : List ℕ
+  pub round : ℕ
   pub goes : rounds fs ss n (memAt ws) (memAt ds) (n - round) out ≡ rounds fs ss n (memAt ws) (memAt ds) n []
-  pub upto : round ≤ n
+  pub upto : round + size todo ≤ n
   pub count : len ≡ length out
   pub sum : len + size todo ≤ n
   pub left : (i : ℕ) → mem todo i ≡ (ltb i n && not (elem i out))
   pub sums : (i : ℕ) → mem todo i ≡ true → rateAt sum-fees sum-sizes i ≡ ancestorSum fs ss n (memAt ws) (memAt ds) out i
+  pub starts : isEmpty todo ≡ false → from < n
+  pub resumes : Resumes (ranksAbove (rateAt sum-fees sum-sizes)) todo held from
   pub are : order ≡ out ++ drop len room
   pub long : length order ≡ length room
 
@@ -96,18 +109,21 @@ module _
     (counted : Counted ws all n counts)
     (room : List ℕ) where
   -- at first nothing is out
-  pub take-start : (sum-fees : List ℤ) (sum-sizes : List ℕ)
+  pub take-start : (sum-fees : List ℤ) (sum-sizes held : List ℕ)
       → ((i : ℕ) → i < n → rateAt sum-fees sum-sizes i ≡ total fs ss (listFrom (ancestorIn ws all i) positions 0))
-      → Taking fs ss ws ds n room room sum-fees sum-sizes all 0 0
+      → Taking fs ss ws ds n room room sum-fees sum-sizes held all 0 0
   unfolding ancestorSum givenBack elem anyOf
-  take-start sum-fees sum-sizes e = record {
+  take-start sum-fees sum-sizes held e = record {
     out = [];
+    round = 0;
     goes = ap (λ (k : ℕ). rounds fs ss n (memAt ws) (memAt ds) k []) (omega arith);
-    upto = omega arith;
+    upto = omega (arith, size-all ws n few all full);
     count = refl;
     sum = omega (arith, size-all ws n few all full);
     left = λ i. all-mem ws n few all full i ∙ sym (and-true (ltb i n));
     sums = λ i m. e i (ltb-true i n (sym (all-mem ws n few all full i) ∙ m)) ∙ ap (total fs ss) (ancestors-below ws n few all full i);
+    starts = λ m. let l = ltb-true (lowestOf all) n (sym (all-mem ws n few all full (lowestOf all)) ∙ lowest-mem all m) in omega arith;
+    resumes = resumes-first (ranksAbove (rateAt sum-fees sum-sizes)) all held;
     are = refl;
     long = refl;
   }
@@ -115,10 +131,10 @@ module _
   module _
       (order : List ℕ)
       (sum-fees : List ℤ)
-      (sum-sizes : List ℕ)
+      (sum-sizes old : List ℕ)
       (todo : TxSet)
-      (len round : ℕ)
-      (h : Taking fs ss ws ds n room order sum-fees sum-sizes todo len round) where
+      (from len : ℕ)
+      (h : Taking fs ss ws ds n room order sum-fees sum-sizes old todo from len) where
     -- what is left has its places
     pub todo-places : (m : ℕ) → n ≤ m → Places todo m
     todo-places m l i e = let b = ltb-true i n (and-left (ltb i n) (not (elem i (h .out))) (sym (h .left i) ∙ e)) in omega arith
@@ -128,13 +144,9 @@ module _
     unfolding members remaining
     todo-members = list-below (mem todo) (λ i. not (elem i (h .out))) n positions few (h .left)
 
-    -- after n rounds, or when nothing is left, all that is to be taken is out
-    pub take-stop : n ≤ round → h .out ≡ rounds fs ss n (memAt ws) (memAt ds) n []
-    unfolding rounds
-    take-stop l = let e : n - round ≡ 0 = omega arith in ap (λ (k : ℕ). rounds fs ss n (memAt ws) (memAt ds) k (h .out)) (sym e) ∙ h .goes
-
+    -- when nothing is left, all that is to be taken is out
     pub take-empty : isEmpty todo ≡ true → h .out ≡ rounds fs ss n (memAt ws) (memAt ds) n []
-    take-empty e = sym (rounds-none fs ss n (memAt ws) (memAt ds) (n - round) (h .out) (sym todo-members ∙ walk-done todo e)) ∙ h .goes
+    take-empty e = sym (rounds-none fs ss n (memAt ws) (memAt ds) (n - h .round) (h .out) (sym todo-members ∙ walk-done todo e)) ∙ h .goes
 
     -- the candidate of the definition is that of the code
     candidate-is : candidate fs ss n (memAt ws) (memAt ds) (h .out) ≡ best (ranksAbove (rateAt sum-fees sum-sizes)) (members todo)
@@ -217,6 +229,31 @@ module _
       pub rest-places : (m : ℕ) → n ≤ m → Places rest m
       rest-places m l i e = todo-places m l i (and-left (mem todo i) (not (mem some i)) (sym (without i) ∙ e))
 
+      -- where there is none, all that is to be taken is out
+      pub take-none : isEmpty some ≡ true → h .out ≡ rounds fs ss n (memAt ws) (memAt ds) n []
+      unfolding sorted
+      take-none e =
+          sym
+          (rounds-stuck fs ss n (memAt ws) (memAt ds) (n - h .round) (h .out)
+          (appended ∙ ap (λ (k : ℕ). h .out ++ sorted (fewerBy counts) (mem some) k []) (size-empty some e) ∙ append-nil (h .out)))
+          ∙ h .goes
+
+      -- else fewer are left
+      some-size : isEmpty some ≡ false → 0 < size some
+      some-size e =
+          let m : mem some (lowestOf some) ≡ true = lowest-mem some e in
+          omega (arith, size-members some, elem-long (lowestOf some) (members some) (members-elem some (lowestOf some) ∙ m))
+        where
+          elem-long : (x : ℕ) (xs : List ℕ) → elem x xs ≡ true → 0 < length xs
+          elem-long x [] q = clash q none
+            where
+              none : elem x [] ≡ false
+              none = unfold elem anyOf in refl
+          elem-long x (y ∷ ys) q = omega arith
+
+      pub take-fewer : isEmpty some ≡ false → size rest < size todo
+      take-fewer e = omega (arith, parts, some-size e)
+
       -- there is room for them
       pub take-room : n ≤ length room → len + size some ≤ length order
       take-room l = omega (arith, parts, h .sum, h .long)
@@ -225,7 +262,7 @@ module _
           (last : List ℕ)
           (end : ℕ)
           (app : Appended (fewerBy counts) some order last len end)
-          (kept : length last ≡ length order) where
+          (kept-long : length last ≡ length order) where
         new : List ℕ
         new = sorted (fewerBy counts) (mem some) (size some) []
 
@@ -249,20 +286,25 @@ module _
             ∙ ap (λ (k : ℕ). drop k room) d
 
         -- one round
-        pub take-turn : (sum-fees' : List ℤ) (sum-sizes' : List ℕ) → round < n
+        pub take-turn : (sum-fees' : List ℤ) (sum-sizes' held : List ℕ) (changed both : TxSet) (next : ℕ) → isEmpty some ≡ false
             → GaveBack fs ss ds rest (take (end - len) (drop len last)) (rateAt sum-fees sum-sizes) (rateAt sum-fees' sum-sizes')
-            → Taking fs ss ws ds n room last sum-fees' sum-sizes' rest end (round + 1)
-        unfolding ancestorSum rounds new
-        take-turn sum-fees' sum-sizes' l back =
+            → ChangedOnly rest changed (rateAt sum-fees sum-sizes) (rateAt sum-fees' sum-sizes')
+            → HeldBelow (ranksAbove (rateAt sum-fees sum-sizes)) todo held positions
+            → ((i : ℕ) → mem both i ≡ (mem some i || mem changed i)) → next ≡ lowestOf both
+            → Taking fs ss ws ds n room last sum-fees' sum-sizes' held rest next end
+        unfolding ancestorSum rounds new ranksAbove
+        take-turn sum-fees' sum-sizes' held changed both next any back only kept joins is =
             let many : length new ≡ size some = app .many in
-            let next : n - round ≡ suc (n - (round + 1)) = omega arith in
+            let fewer = some-size any in
+            let fall : n - h .round ≡ suc (n - (h .round + 1)) = omega (arith, h .upto, parts) in
             record {
               out = h .out ++ new;
+              round = h .round + 1;
               goes =
-                  ap (rounds fs ss n (memAt ws) (memAt ds) (n - (round + 1))) (sym appended)
-                  ∙ ap (λ (k : ℕ). rounds fs ss n (memAt ws) (memAt ds) k (h .out)) (sym next)
+                  ap (rounds fs ss n (memAt ws) (memAt ds) (n - (h .round + 1))) (sym appended)
+                  ∙ ap (λ (k : ℕ). rounds fs ss n (memAt ws) (memAt ds) k (h .out)) (sym fall)
                   ∙ h .goes;
-              upto = omega arith;
+              upto = omega (arith, h .upto, parts);
               count = rw length-append (omega (arith, app .ends, h .count));
               sum = omega (arith, parts, app .ends, h .sum);
               left = λ i.
@@ -271,13 +313,40 @@ module _
                   back i m
                   ∙ ap₂ (givenBack fs ss (λ t. memAt ds t i)) (h .sums i (was-left i m)) gone-is
                   ∙ sym (back-append fs ss (λ t. memAt ds t i) (total fs ss (listFrom (memAt ws i) n 0)) (h .out) new);
+              starts = λ _. todo-places n (omega arith) next first-left;
+              resumes =
+                  resumes-on (λ a b. isGreater (rankOrder a b)) (rateAt sum-fees sum-sizes) (rateAt sum-fees' sum-sizes') todo rest next
+                  (λ j l. without j ∙ ap (λ (b : Bool). mem todo j && not b) (not-some j l) ∙ and-true (mem todo j))
+                  (λ j l m. only .same j (not-changed j l)) held kept first-left;
               are =
                   app .are ∙ ap₂ (λ (x y : List ℕ). x ++ (new ++ y)) front behind ∙ sym (append-assoc (h .out) new (drop end room));
-              long = kept ∙ h .long;
+              long = kept-long ∙ h .long;
             }
           where
             was-left : (i : ℕ) → mem rest i ≡ true → mem todo i ≡ true
             was-left i m = and-left (mem todo i) (not (mem some i)) (sym (without i) ∙ m)
+
+            -- below the lowest of both nothing has changed
+            not-some : (j : ℕ) → j < next → mem some j ≡ false
+            not-some j l = or-left (mem some j) (mem changed j) (sym (joins j) ∙ lowest-first both j (omega (arith, is)))
+
+            not-changed : (j : ℕ) → j < next → mem changed j ≡ false
+            not-changed j l = or-right (mem some j) (mem changed j) (sym (joins j) ∙ lowest-first both j (omega (arith, is)))
+
+            -- and that was left
+            both-some : isEmpty both ≡ false
+            both-some =
+                is-false (isEmpty both)
+                (λ e.
+                let i = lowestOf some in
+                clash (lowest-mem some any) (or-left (mem some i) (mem changed i) (sym (joins i) ∙ empty-mem both e i)))
+
+            first-left : mem todo next ≡ true
+            first-left =
+                ⊎-elim
+                (λ m. and-right (mem at next) (mem todo next) (sym (shared next) ∙ m))
+                (λ m. was-left next (only .within next m))
+                (or-either (mem some next) (mem changed next) (sym (joins next) ∙ ap (mem both) is ∙ lowest-mem both both-some))
 
 -- ---- what the function promises
 
@@ -309,8 +378,8 @@ unfolding fits
 fit-room fs room e = leb-true (length fs) (length room) (and-right (leb (length fs) positions) (leb (length fs) (length room)) e)
 
 -- and all that was taken is there
-pub all-taken : {fs : List ℤ} {ss ws ds room order : List ℕ} {sum-fees : List ℤ} {sum-sizes : List ℕ} {todo : TxSet} {len round : ℕ}
-    → (h : Taking fs ss ws ds (length fs) room order sum-fees sum-sizes todo len round) → fits fs room ≡ true
+pub all-taken : {fs : List ℤ} {ss ws ds room order : List ℕ} {sum-fees : List ℤ} {sum-sizes held : List ℕ} {todo : TxSet} {from len : ℕ}
+    → (h : Taking fs ss ws ds (length fs) room order sum-fees sum-sizes held todo from len) → fits fs room ≡ true
     → h .out ≡ rounds fs ss (length fs) (memAt ws) (memAt ds) (length fs) []
     → (len ≡ written fs ss (memAt ws) (memAt ds) room) × (order ≡ filled fs ss (memAt ws) (memAt ds) room)
 unfolding written filled ancestorOrder

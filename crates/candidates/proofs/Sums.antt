@@ -1,6 +1,7 @@
 -- The sums as two lists, written one after the other. Assumes nothing.
-use mathlib.Core.Path.{_≡_, refl, ap, _∙_}
-use mathlib.Core.Bool.{Bool, false, cond, not, _&&_}
+use mathlib.Core.Path.{_≡_, refl, sym, ap, _∙_}
+use mathlib.Core.Bool.{Bool, true, false, cond, not, _&&_, _||_}
+use mathlib.Core.Logic.{⊎-elim}
 use mathlib.Core.List.{List, [], _∷_, _++_}
 use Prim.Native.Nat.{ℕ, _+_, _≤_, _<_}
 use native.Mathlib.Numerals.{add-one}
@@ -15,7 +16,9 @@ use Rattle.feefrac.specs.Rate.{difference, rateAt}
 use Rattle.feefrac.proofs.Lists.{put-same, put-other}
 use Rattle.txset.specs.declared.TxSet.{TxSet}
 use Rattle.txset.specs.Sets.{mem, isEmpty, lowestOf}
+use Rattle.lists.proofs.Bools.{clash, or-left, or-right, or-either}
 use Rattle.candidates.specs.Candidates.{givenBack}
+use Rattle.candidates.specs.Steps.{ChangedOnly, GaveOneBack}
 use Rattle.candidates.proofs.Changes.{Changing, change-turn}
 
 -- the lists after r was put at d
@@ -48,6 +51,23 @@ pub give-turn : (rate : FeeFrac) (to : TxSet) (was : ℕ → FeeFrac) (fs : List
 give-turn rate to was fs ss s t d some first less r is gs ts p a b =
     change-turn (λ x. difference x rate) to was (rateAt fs ss) (rateAt gs ts) s t d some first less
     (read-same p a b ∙ is) (read-other p)
+
+-- ---- whose sums have changed
+
+pub changed-none : (todo none : TxSet) (was : ℕ → FeeFrac) → ((i : ℕ) → mem none i ≡ false) → ChangedOnly todo none was was
+changed-none todo none was e = record { within = λ i m. clash m (e i); same = λ i m. refl }
+
+-- one more is given back, to the members of `to`
+pub changed-more : (todo changed to next : TxSet) (rate : FeeFrac) (was now then : ℕ → FeeFrac) → ChangedOnly todo changed was now
+    → GaveOneBack to rate now then → ((i : ℕ) → mem to i ≡ true → mem todo i ≡ true) → ((i : ℕ) → mem next i ≡ (mem changed i || mem to i))
+    → ChangedOnly todo next was then
+changed-more todo changed to next rate was now then h gave inside joins = record {
+  within = λ i m. ⊎-elim (h .within i) (inside i) (or-either (mem changed i) (mem to i) (sym (joins i) ∙ m));
+  same = λ i m.
+      gave i
+      ∙ ap (λ (b : Bool). cond b (difference (now i) rate) (now i)) (or-right (mem changed i) (mem to i) (sym (joins i) ∙ m))
+      ∙ h .same i (or-left (mem changed i) (mem to i) (sym (joins i) ∙ m));
+}
 
 -- ---- several given back
 
