@@ -11,7 +11,7 @@ use Rattle.txset.specs.declared.TxSet.{TxSet}
 use Rattle.lists.specs.Below.{keepIf, listFrom, firstFrom}
 use Rattle.txset.specs.Sets.{positions, mem, members, size, isEmpty, lowestOf}
 use Rattle.lists.specs.Lists.{elem, only}
-use Rattle.lists.proofs.Bools.{clash, and-left}
+use Rattle.lists.proofs.Bools.{clash, and-left, and-right}
 use Rattle.lists.proofs.Below.{elem-below, first-is}
 use Rattle.lists.proofs.Lists.{elem-head, elem-tail}
 use Rattle.lists.proofs.Numbers.{lt-or-ge}
@@ -39,6 +39,15 @@ best-mem above ready s t e =
     let is : elem t (listFrom f positions 0) ≡ true =
     ap (elem t) (sym (only-list ready (mem s) positions 0)) ∙ best-elem above (only ready (listFrom (mem s) positions 0)) t e in
     and-left (mem s t) (ready t) (elem-below f positions t is .1)
+
+-- and ready
+pub best-ready : (above : ℕ → ℕ → Bool) (ready : ℕ → Bool) (s : TxSet) (t : ℕ) → best above (only ready (members s)) ≡ t ∷ [] → ready t ≡ true
+unfolding members
+best-ready above ready s t e =
+    let f : ℕ → Bool = λ j. mem s j && ready j in
+    let is : elem t (listFrom f positions 0) ≡ true =
+    ap (elem t) (sym (only-list ready (mem s) positions 0)) ∙ best-elem above (only ready (listFrom (mem s) positions 0)) t e in
+    and-right (mem s t) (ready t) (elem-below f positions t is .1)
 
 -- nothing is found, or one
 pub found-none : (found : ℕ) → found ≡ positions → foundOf found ≡ []
@@ -164,3 +173,10 @@ module _
 
   pub found-keeps : ready i ≡ true → (found ≡ positions → ⊥) → above i found ≡ false → Found above ready all found t
   found-keeps e n a = record { small = h .small; of = kept; gives = turn false a e n n }
+
+-- one that is alone and ready is the best
+pub best-alone : (above : ℕ → ℕ → Bool) (ready : ℕ → Bool) {s t : TxSet} {i : ℕ} → Next s t i → isEmpty t ≡ true → ready i ≡ true
+    → i ∷ [] ≡ best above (only ready (members s))
+best-alone above ready {s} {t} {i} w none e =
+    sym (found-one i (λ q. omega (arith, next-position w)))
+    ∙ found-stop (found-first (found-start above ready positions s refl) w e refl) none

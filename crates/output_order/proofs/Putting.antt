@@ -16,13 +16,13 @@ use Rattle.lists.specs.Lists.{elem, only}
 use Rattle.txset.specs.Sets.{positions, isPosition, mem, members, size, isEmpty, memAt}
 use Rattle.lists.proofs.Ranges.{list-below}
 use Rattle.lists.proofs.Lists.{elem-snoc, written-next}
-use Rattle.lists.proofs.Bools.{without-or, or-either}
+use Rattle.lists.proofs.Bools.{clash, without-or, or-either}
 use Rattle.txset.proofs.Sets.{mem-position, size-without, position-and, size-most, size-more, size-in}
 use Rattle.txset.proofs.Walk.{walk-done}
 use Rattle.feeset.specs.Scan.{best, ranksAbove}
 use Rattle.output_order.specs.Output.{memberReady, inside}
 use Rattle.output_order.specs.Steps.{All}
-use Rattle.output_order.specs.Rounds.{freed, memberOf, Standing, Placed, Put}
+use Rattle.output_order.specs.Rounds.{freed, memberOf, Within, Standing, Placed, Put}
 use Rattle.output_order.proofs.Choices.{only-list, best-mem}
 use Rattle.output_order.proofs.Ready.{freed-ready}
 
@@ -68,6 +68,30 @@ module _ {n : ℕ} {done : TxSet} {len : ℕ} {room : List ℕ} (next : TxSet) (
   -- there is a place for it
   pub standing-room : len < length room
   standing-room = omega (arith, h .place, standing-more .count, size-most next n few (standing-more .below))
+
+-- ---- whose ancestors are left or done
+
+-- what is left of a chunk
+pub within-start : {ancestors : List ℕ} {all chunk done left : TxSet} → ((i : ℕ) → mem left i ≡ (mem chunk i && not (mem done i)))
+    → Within ancestors all chunk done → Within ancestors all left done
+within-start {chunk = chunk} {done} {left} without w = record {
+  either = λ t a l x y.
+      ap (λ (b : Bool). b || mem done a) (without a)
+      ∙ rest (mem chunk a) (mem done a) (w .either t a (and-eq-true-iff (mem chunk t) (not (mem done t)) .0 (sym (without t) ∙ l) .0) x y);
+}
+  where
+    rest : (c d : Bool) → (c || d) ≡ true → (c && not d || d) ≡ true
+    rest true true e = refl
+    rest true false e = refl
+    rest false d e = e
+
+-- one goes from left to done
+moved : (l d e : Bool) → (l || d) ≡ true → (l && not e || (d || e)) ≡ true
+moved true d false h = refl
+moved true true true h = refl
+moved true false true h = refl
+moved false true e h = refl
+moved false false e h = clash h refl
 
 -- ---- the loop
 
@@ -158,6 +182,14 @@ module _ {fs : List ℤ} {ss : List ℕ} {n : ℕ} {ancestors room₀ : List ℕ
 
     pub putting-less : size left' < size left
     putting-less = omega (arith, size-without left left' t in-left less)
+
+    pub putting-within : Within ancestors all left done → Within ancestors all left' done'
+    putting-within w = record {
+      either = λ i a l x y.
+          ap₂ _||_ (less a) (done-more a)
+          ∙ moved (mem left a) (mem done a) (eqb a t)
+          (w .either i a (and-eq-true-iff (mem left i) (not (eqb i t)) .0 (sym (less i) ∙ l) .0) x y);
+    }
 
     pub putting-room : len < length room
     putting-room = standing-room done' t (h .few) (p .stands) (p .fresh t in-left .0) (p .fresh t in-left .1) done-more

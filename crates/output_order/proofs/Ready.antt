@@ -10,15 +10,17 @@ use borrow.Author.Tests.{lt-ltb, le-ltb, ltb-true, not-true}
 use Rattle.txset.specs.declared.TxSet.{TxSet}
 use Rattle.lists.specs.Below.{allFrom}
 use Rattle.lists.specs.Lists.{elem}
-use Rattle.txset.specs.Sets.{positions, mem, isSubset, setAt, memAt}
+use Rattle.txset.specs.Sets.{positions, mem, isEmpty, isSubset, setAt, memAt}
 use Rattle.lists.proofs.Numbers.{lt-or-ge}
 use Rattle.lists.proofs.Below.{all-ext, all-at, at-all}
-use Rattle.lists.proofs.Bools.{clash, is-true, is-false, implies, true-together}
+use Rattle.lists.proofs.Bools.{clash, is-true, is-false, implies, or-either, true-together}
 use Rattle.lists.proofs.Lists.{any-none, none-any}
-use Rattle.txset.proofs.Sets.{subset-mem, mem-subset}
+use Rattle.txset.proofs.Sets.{subset-mem, mem-subset, empty-mem}
+use Rattle.txset.proofs.Walk.{lowest-mem}
 use Rattle.output_order.specs.Output.{chunkReady, memberReady}
 use Rattle.output_order.specs.Steps.{All, needed}
-use Rattle.output_order.specs.Rounds.{freed}
+use Rattle.output_order.specs.Rounds.{freed, Within}
+use Rattle.output_order.proofs.Choices.{Next}
 
 -- what an implication that holds gives
 imp-elim : (a b : Bool) → (not a || b) ≡ true → a ≡ true → b ≡ true
@@ -34,12 +36,40 @@ freed-is ancestors all done d t h =
     all-ext (λ a. not (mem d a) || mem done a) (λ a. not ((mem (setAt ancestors t) a && mem all a) && not (eqb a t)) || mem done a) positions 0
     (λ a _ _. ap (λ (b : Bool). not b || mem done a) (h a))
 
+-- one that is left alone is ready
+pub freed-alone : {ancestors : List ℕ} {all left done rest : TxSet} {t : ℕ} → Within ancestors all left done → Next left rest t → isEmpty rest ≡ true
+    → freed ancestors all done t ≡ true
+unfolding freed
+freed-alone {ancestors} {all} {left} {done} {rest} {t} h w none =
+    at-all (λ a. not ((mem (setAt ancestors t) a && mem all a) && not (eqb a t)) || mem done a) positions 0 (λ a _ _.
+    implies ((mem (setAt ancestors t) a && mem all a) && not (eqb a t)) (mem done a) (λ e.
+    let parts = and-eq-true-iff (mem (setAt ancestors t) a && mem all a) (not (eqb a t)) .0 e in
+    let links = and-eq-true-iff (mem (setAt ancestors t) a) (mem all a) .0 (parts .0) in
+    ⊎-elim
+    (λ l. clash (w .rest a ∙ ap₂ _&&_ l (ap (λ (x : ℕ). not (eqb a x)) (sym (w .first)) ∙ parts .1)) (empty-mem rest none a))
+    (λ d. d)
+    (or-either (mem left a) (mem done a)
+    (h .either t a (ap (mem left) (w .first) ∙ lowest-mem left (w .left)) (links .0) (links .1)))))
+
 -- f is g below n, and holds past it
 all-below : (f g : ℕ → Bool) (n m : ℕ) → n ≤ m → ((i : ℕ) → i < n → f i ≡ g i) → ((i : ℕ) → n ≤ i → f i ≡ true) → allFrom f m 0 ≡ allFrom g n 0
 all-below f g n m h low high =
     true-together (allFrom f m 0) (allFrom g n 0)
     (λ e. at-all g n 0 (λ j _ b. sym (low j (omega arith)) ∙ all-at f m 0 e j (omega arith) (omega arith)))
     (λ e. at-all f m 0 (λ j _ b. ⊎-elim (λ l. low j l ∙ all-at g n 0 e j (omega arith) (omega arith)) (λ l. high j l) (lt-or-ge j n)))
+
+-- where a chunk is ready, each ancestor of its members is in it or out
+pub ready-within : (n : ℕ) (anc : ℕ → ℕ → Bool) (out c : List ℕ) → chunkReady n anc out c ≡ true → (t a : ℕ) → t < n → a < n → elem t c ≡ true
+    → anc t a ≡ true → (elem a c || elem a out) ≡ true
+unfolding chunkReady
+ready-within n anc out c h t a l m tc ta =
+    imp-elim (anc t a) (elem a c || elem a out)
+    (all-at (has t) n 0 (imp-elim (elem t c) (allFrom (has t) n 0) (all-at (λ t. not (elem t c) || allFrom (has t) n 0) n 0 h t (omega arith) (omega arith)) tc)
+    a (omega arith) (omega arith))
+    ta
+  where
+    has : ℕ → ℕ → Bool
+    has t a = not (anc t a) || (elem a c || elem a out)
 
 -- `done` is what is in the list `out`
 module _ (n : ℕ) (done : TxSet) (out : List ℕ) (member : (i : ℕ) → mem done i ≡ elem i out) where
@@ -110,8 +140,6 @@ module _ (n : ℕ) (done : TxSet) (out : List ℕ) (member : (i : ℕ) → mem d
           (none-any (asks a) c (λ t tc.
           is-false (asks a t) (λ ta.
           let both = and-eq-true-iff (ltb t n) (anc t a) .0 ta in
-          let all : allFrom (has t) n 0 ≡ true =
-          imp-elim (elem t c) (allFrom (has t) n 0) (all-at each n 0 h t (omega arith) (omega (arith, ltb-true t n (both .0)))) tc in
           clash
-          (imp-elim (anc t a) (elem a c || elem a out) (all-at (has t) n 0 all a (omega arith) (omega arith)) (both .1))
+          (ready-within n anc out c h t a (ltb-true t n (both .0)) small tc (both .1))
           (ap₂ _||_ (not-true (elem a c) (rest .1)) no)))))

@@ -1,6 +1,6 @@
 -- The chunks put out one after the other: `left` are those that are not taken yet. Assumes nothing.
 use mathlib.Core.Path.{_≡_, refl, sym, ap, ap₂, _∙_}
-use mathlib.Core.Bool.{Bool, true, false, cond, not, _&&_, and-true, and-eq-true-iff, or-comm}
+use mathlib.Core.Bool.{Bool, true, false, cond, not, _&&_, _||_, and-true, and-eq-true-iff, or-comm}
 use mathlib.Core.List.{List, [], _∷_, _++_}
 use Prim.Native.Nat.{ℕ, zero, suc, _+_, _-_, _≤_, _<_}
 use native.Mathlib.Omega.{arith}
@@ -26,9 +26,9 @@ use Rattle.feeset.proofs.Scan.{best-ext}
 use Rattle.chunking.specs.Orders.{chunksOf, chunkAt}
 use Rattle.output_order.specs.Output.{chunkRate, chunkAbove, chunkReady, inside, putOut, nextChunk, chunksOut, outputOrder, fits, written, filled}
 use Rattle.output_order.specs.Steps.{All, Cut, Below, Drops}
-use Rattle.output_order.specs.Rounds.{foundOf, sumAbove, covered, chunkOf, Standing, Placed, Put}
-use Rattle.output_order.proofs.Choices.{only-list, best-mem, Found, found-early, lowest-least}
-use Rattle.output_order.proofs.Ready.{covered-ready}
+use Rattle.output_order.specs.Rounds.{foundOf, sumAbove, covered, chunkOf, Within, Standing, Placed, Put}
+use Rattle.output_order.proofs.Choices.{only-list, best-mem, best-ready, Found, found-early, lowest-least}
+use Rattle.output_order.proofs.Ready.{ready-within, covered-ready}
 
 -- ---- the definition, by what is chosen
 
@@ -209,6 +209,23 @@ module _ {fs : List ℤ} {ss ancestors order room₀ : List ℕ} {all : TxSet} {
         (and-eq-true-iff (ltb i (length fs)) (elem i (chunkAt (chunksOf fs ss order) k)) .0
         (sym (ap (λ (s : TxSet). mem s i) at ∙ p .known .chunks .holds k chosen-below .members i) ∙ e)
         .0)
+
+    -- whose ancestors are among them, or out
+    pub chosen-within : (chunk : TxSet) → chunk ≡ setAt sets k → Within ancestors all chunk done
+    chosen-within chunk at = record {
+      either = λ t a l x y.
+          let n = length fs in
+          let c = chunkAt (chunksOf fs ss order) k in
+          let held = p .known .chunks .holds k chosen-below in
+          let of : (i : ℕ) → mem chunk i ≡ (ltb i n && elem i c) = λ i. ap (λ (s : TxSet). mem s i) at ∙ held .members i in
+          let parts = and-eq-true-iff (ltb t n) (elem t c) .0 (sym (of t) ∙ l) in
+          let small = sym (p .known .whole .are a) ∙ y in
+          ap₂ _||_ (of a ∙ ap (λ (b : Bool). b && elem a c) small) (p .placed .member a)
+          ∙ ready-within n (memAt ancestors) (p .out) c
+          (sym (covered-ready n done (p .out) (p .placed .member) (memAt ancestors) c (setAt outsides k) (held .outsiders))
+          ∙ best-ready (sumAbove sumFees sumSizes tops) (covered outsides done) left k is)
+          t a (ltb-true t n (parts .0)) (ltb-true a n small) (parts .1) x;
+    }
 
     -- it is taken, and its members are put out
     pub rounds-turn : (left' chunk done' : TxSet) (len' : ℕ) (room' : List ℕ) → round < r

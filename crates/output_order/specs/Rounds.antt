@@ -47,6 +47,10 @@ chunkOf outsides sumFees sumSizes tops left done = best (sumAbove sumFees sumSiz
 abbrev pub memberOf : List ℤ → List ℕ → List ℕ → TxSet → TxSet → TxSet → List ℕ
 memberOf fs ss ancestors all left done = best (ranksAbove (rateAt fs ss)) (only (freed ancestors all done) (members left))
 
+-- the ancestors of those left are left or done, as far as they are in `all`
+pub record Within (ancestors : List ℕ) (all left done : TxSet) : Type 0 where
+  pub either : (t a : ℕ) → mem left t ≡ true → mem (setAt ancestors t) a ≡ true → mem all a ≡ true → (mem left a || mem done a) ≡ true
+
 -- what is done are `len` of the n members, and the room has a place for each
 pub record Standing (n : ℕ) (done : TxSet) (len : ℕ) (room : List ℕ) : Type 0 where
   pub below : (i : ℕ) → mem done i ≡ true → i < n

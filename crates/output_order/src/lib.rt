@@ -3,16 +3,16 @@
 // cluster has one order. Each round scans the chunks that are left as far as none behind can be higher, which is one chunk where all rates
 // differ; each member of a chunk costs a scan of those left in it.
 ghost use mathlib.Core.Path.{_≡_};
-ghost use mathlib.Core.Bool.{true};
+ghost use mathlib.Core.Bool.{true, false};
 ghost use mathlib.Core.List.{List};
 ghost use Prim.Native.Nat.{ℕ, _≤_, _<_, max};
 ghost use lib.ListN.{length};
 ghost use Rattle.feefrac.specs.Rate.{rateAt};
-ghost use Rattle.txset.specs.Sets.{positions, mem, memAt};
+ghost use Rattle.txset.specs.Sets.{positions, mem, isEmpty, memAt};
 ghost use Rattle.chunking.specs.Orders.{chunksOf};
 ghost use Rattle.output_order.specs.Output.{written, filled};
 ghost use Rattle.output_order.specs.Steps.{All, Stack, Cut, Alone, Swallowed, Summed, Below, Drops, FallsOn};
-ghost use Rattle.output_order.specs.Rounds.{chosen, foundOf, sumAbove, chunkOf, memberOf, Standing, PutOut};
+ghost use Rattle.output_order.specs.Rounds.{chosen, foundOf, sumAbove, chunkOf, memberOf, Within, Standing, PutOut};
 use feefrac::FeeFrac;
 use feefrac::compare_sizes;
 use feefrac::is_greater;
@@ -338,6 +338,7 @@ fn put_out(
 ) -> Out
     requires { ⌜ All (length (now fees)) all ⌝ }
     requires { ⌜ ((i : ℕ) → mem chunk i ≡ true → i < length (now fees)) ⌝ }
+    requires { ⌜ Within (now ancestors) all chunk (before .done) ⌝ }
     requires { ⌜ Standing (length (now fees)) (before .done) (before .len) (now room) ⌝ }
     ensures { λ r. ⌜ PutOut (now (fees .entry)) (now (sizes .entry)) (memAt (now (ancestors .entry))) chunk before (now (room .entry)) r (now (room .exit)) ⌝ }
 {
@@ -357,7 +358,8 @@ fn put_out(
     Out { done, len }
 }
 
-// Of the members left whose other ancestors are out the one of the highest own rank.
+// Of the members left whose other ancestors are out the one of the highest own rank. One that is left alone is ready: its ancestors are left
+// or out.
 fn next_member(
     fees: &[i64],
     sizes: &[u64],
@@ -366,8 +368,13 @@ fn next_member(
     left: TxSet,
     done: TxSet,
 ) -> Choice
+    requires { ⌜ (isEmpty left ≡ false) × Within (now ancestors) all left done ⌝ }
     ensures { λ r. ⌜ chosen r ≡ memberOf (now (fees .entry)) (now (sizes .entry)) (now (ancestors .entry)) all left done ⌝ }
 {
+    let others = left.without_lowest();
+    if others.is_empty() {
+        return Choice::Of(left.lowest());
+    }
     let mut found: usize = POSITIONS;
     let mut rest = left;
     // `found` is the best ready one of those passed, POSITIONS where there was none.

@@ -8,8 +8,8 @@ use Rattle.txset.specs.declared.TxSet.{TxSet}
 use Rattle.txset.specs.Sets.{mem, members, size}
 use Rattle.feeset.specs.Scan.{ranksAbove}
 use Rattle.output_order.specs.Rounds.{freed}
-use Rattle.output_order.proofs.Choices.{Found, Next, found-start, found-stop, next-less, found-skip, found-first, found-yields, found-keeps}
-use Rattle.output_order.proofs.Ready.{freed-is}
+use Rattle.output_order.proofs.Choices.{Found, Next, found-start, found-stop, next-less, found-skip, found-first, found-yields, found-keeps, best-alone}
+use Rattle.output_order.proofs.Ready.{freed-is, freed-alone}
 use Rattle.output_order.proofs.next_member.Statement.{statement}
 use Rattle.output_order.proofs.next_member.Tie as tie
 
@@ -19,54 +19,65 @@ Inv-loop fees sizes ancestors all done found₀ rest₀ found rest = Found (rank
 abbrev μ-loop : tie.MeasureT-loop
 μ-loop fees sizes ancestors all done found₀ rest₀ found rest = size rest
 
+-- one that is left alone
+returns : tie.Need-returns Inv-loop μ-loop
+returns c =
+    let empty = c .before .before in
+    let without = empty .before in
+    let start = without .before .before .before in
+    let w : Next (start .args .left) (without .without-lowest .result) (c .lowest .result) =
+    record { left = start .pre .0; first = c .lowest .ensures; rest = without .without-lowest .ensures } in
+    let none = sym (empty .is-empty .ensures) ∙ c .before .if1 .taken in
+    best-alone _ _ w none (freed-alone (start .pre .1) w none)
+
 -- a turn takes the lowest
-next : (c : tie.After-without-lowest Inv-loop μ-loop)
-    → Next (c .before .before .before .before .loop .rest) (c .without-lowest .result) (c .before .lowest .result)
+next : (c : tie.After-without-lowest2 Inv-loop μ-loop)
+    → Next (c .before .before .before .before .loop .rest) (c .without-lowest2 .result) (c .before .lowest2 .result)
 next c =
     let empty = c .before .before .before in
     record {
-      left = sym (empty .is-empty .ensures) ∙ not-true _ (c .before .before .if1 .taken);
-      first = c .before .lowest .ensures;
-      rest = c .without-lowest .ensures;
+      left = sym (empty .is-empty2 .ensures) ∙ not-true _ (c .before .before .if2 .taken);
+      first = c .before .lowest2 .ensures;
+      rest = c .without-lowest2 .ensures;
     }
 
 -- the subset test says whether the lowest is ready
 tested : (c : tie.After-is-subset Inv-loop μ-loop)
     → let w = c .before .before .before .before in
-    let args = w .before .before .before .before .before .before .before .args in
-    freed (args .ancestors .now) (args .all) (args .done) (w .before .lowest .result) ≡ c .is-subset .result
+    let args = w .before .before .before .before .before .before .before .before .before .before .args in
+    freed (args .ancestors .now) (args .all) (args .done) (w .before .lowest2 .result) ≡ c .is-subset .result
 tested c =
     let w = c .before .before .before .before in
-    let args = w .before .before .before .before .before .before .before .args in
+    let args = w .before .before .before .before .before .before .before .before .before .before .args in
     sym (c .is-subset .ensures ∙ freed-is _ _ _ _ _
     (λ a.
     c .before .remove .ensures a
-    ∙ ap (λ (b : Bool). b && not (eqb a (w .before .lowest .result)))
+    ∙ ap (λ (b : Bool). b && not (eqb a (w .before .lowest2 .result)))
     (c .before .before .intersection .ensures a ∙ ap (λ (s : TxSet). mem s a && mem (args .all) a) (c .before .before .before .at .ensures))))
 
 loop-again : tie.Need-loop-again Inv-loop μ-loop
 loop-again c =
     let w = c .before .before .before .before .before in
-    found-skip (w .before .before .before .before .loop .inv) (next w) (tested (c .before) ∙ not-true _ (c .if2 .taken))
+    found-skip (w .before .before .before .before .loop .inv) (next w) (tested (c .before) ∙ not-true _ (c .if3 .taken))
 
 -- the lowest is ready
-ready : (c : tie.Else2 Inv-loop μ-loop)
+ready : (c : tie.Else3 Inv-loop μ-loop)
     → let w = c .before .before .before .before .before in
-    let args = w .before .before .before .before .before .before .before .args in
-    freed (args .ancestors .now) (args .all) (args .done) (w .before .lowest .result) ≡ true
-ready c = tested (c .before) ∙ not-false _ (c .if2 .left)
+    let args = w .before .before .before .before .before .before .before .before .before .before .args in
+    freed (args .ancestors .now) (args .all) (args .done) (w .before .lowest2 .result) ≡ true
+ready c = tested (c .before) ∙ not-false _ (c .if3 .left)
 
 loop-again-2 : tie.Need-loop-again-2 Inv-loop μ-loop
 loop-again-2 c =
     let w = c .before .before .before .before .before .before in
-    found-first (w .before .before .before .before .loop .inv) (next w) (ready (c .before)) (c .if3 .taken)
+    found-first (w .before .before .before .before .loop .inv) (next w) (ready (c .before)) (c .if4 .taken)
 
 -- the lowest ranks above what is found exactly if the test says so
 ranked : (c : tie.After-is-greater Inv-loop μ-loop)
     → let w = c .before .before .before .before .before .before .before .before .before .before in
     let loop = w .before .before .before .before in
-    let args = loop .before .before .before .args in
-    ranksAbove (rateAt (args .fees .now) (args .sizes .now)) (w .before .lowest .result) (loop .loop .found) ≡ c .is-greater .result
+    let args = loop .before .before .before .before .before .before .args in
+    ranksAbove (rateAt (args .fees .now) (args .sizes .now)) (w .before .lowest2 .result) (loop .loop .found) ≡ c .is-greater .result
 unfolding ranksAbove
 ranked c =
     let rank = c .before in
@@ -76,18 +87,18 @@ loop-again-3 : tie.Need-loop-again-3 Inv-loop μ-loop
 loop-again-3 c =
     let else3 = c .before .before .before .before .before in
     let w = else3 .before .before .before .before .before .before in
-    found-yields (w .before .before .before .before .loop .inv) (next w) (ready (else3 .before)) (else3 .if3 .left) (ranked (c .before) ∙ c .if4 .taken)
+    found-yields (w .before .before .before .before .loop .inv) (next w) (ready (else3 .before)) (else3 .if4 .left) (ranked (c .before) ∙ c .if5 .taken)
 
 loop-again-4 : tie.Need-loop-again-4 Inv-loop μ-loop
 loop-again-4 c =
     let else3 = c .before .before .before .before .before in
     let w = else3 .before .before .before .before .before .before in
-    found-keeps (w .before .before .before .before .loop .inv) (next w) (ready (else3 .before)) (else3 .if3 .left) (ranked (c .before) ∙ c .if4 .left)
+    found-keeps (w .before .before .before .before .loop .inv) (next w) (ready (else3 .before)) (else3 .if4 .left) (ranked (c .before) ∙ c .if5 .left)
 
-returns : tie.Need-returns Inv-loop μ-loop
-returns c =
+returns-2 : tie.Need-returns-2 Inv-loop μ-loop
+returns-2 c =
     let end = c .before in
-    c .found-choice .ensures ∙ found-stop (end .before .before .loop .inv) (sym (end .before .is-empty .ensures) ∙ not-false _ (end .if1 .left))
+    c .found-choice .ensures ∙ found-stop (end .before .before .loop .inv) (sym (end .before .is-empty2 .ensures) ∙ not-false _ (end .if2 .left))
 
 pub next-member-spec : {M : Type 1} → statement M
 next-member-spec =
@@ -95,6 +106,10 @@ next-member-spec =
     (tie.spec
     Inv-loop
     μ-loop
+    (λ c κs. search needs)
+    (λ c κs. search needs)
+    (λ c κs. search needs)
+    returns
     (λ c. found-start _ _ _ _ refl)
     (λ c κs. search needs)
     (λ c κs. search needs)
@@ -116,4 +131,4 @@ next-member-spec =
     (λ c. next-less (next (c .before .before .before .before .before .before .before .before .before .before .before)))
     loop-again-4
     (λ c κs. search needs)
-    returns)
+    returns-2)

@@ -5,7 +5,7 @@ use Prim.Native.Nat.{_-_}
 use lib.ListN.{length}
 use Rattle.output_order.specs.Steps.{All}
 use Rattle.output_order.specs.Rounds.{chosen}
-use Rattle.output_order.proofs.Rounds.{Rounds, full-all, rounds-start, rounds-below, chosen-small, rounds-turn, rounds-stop, rounds-done}
+use Rattle.output_order.proofs.Rounds.{Rounds, full-all, rounds-start, rounds-below, chosen-small, chosen-within, rounds-turn, rounds-stop, rounds-done}
 use Rattle.output_order.proofs.Rounds.{refuses-members, refuses-order, refuses-room}
 use Rattle.output_order.proofs.Surveying.{chunk-rates}
 use Rattle.output_order.proofs.output_order.Statement.{statement}
@@ -72,7 +72,8 @@ put-out-requires c κs =
     let d = c .before .before .before .before .before in
     let choice = d .before .before in
     let inv = choice .before .before .before .before .before .before .before .loop .inv in
-    (inv .known .whole, (chosen-small inv _ (sym (choice .next-chunk .ensures) ∙ ap chosen (d .k .given .1)) _ (c .before .at .ensures), inv .stands))
+    let is = sym (choice .next-chunk .ensures) ∙ ap chosen (d .k .given .1) in
+    (inv .known .whole, (chosen-small inv _ is _ (c .before .at .ensures), (chosen-within inv _ is _ (c .before .at .ensures), inv .stands)))
 
 add-round : tie.Need-add-round Inv-loop μ-loop
 add-round c =
