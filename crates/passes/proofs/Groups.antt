@@ -5,8 +5,7 @@ use mathlib.Core.List.{List, [], _∷_}
 use Prim.Native.Nat.{ℕ, _-_, _<_}
 use native.Mathlib.Omega.{arith}
 use lib.Dec.{eqb}
-use lib.ListN.{length, getD, set, length-append}
-use lib.Seq.{getD-set-same, getD-set-other}
+use lib.ListN.{length, length-append}
 use borrow.Author.Tests.{lt-ltb}
 use Rattle.feefrac.specs.declared.FeeFrac.{FeeFrac}
 use Rattle.feefrac.specs.Rate.{sum}
@@ -40,7 +39,8 @@ single-stands {ws} {t} v e f =
       deps = λ i. ap (λ (x : TxSet). mem x i) (v .deps ∙ e) ∙ sym (or-false (memAt ws t i));
     }
 
-pub joined-stands : {ws : List ℕ} {prev cur s : Summary} {p g : Group} → Joined prev cur s → Stands ws prev p → Stands ws cur g → Stands ws s (absorb p g)
+pub joined-stands : {ws : List ℕ} {prev cur s : Summary} {p g : Group} → Joined prev cur s → Stands ws prev p → Stands ws cur g
+    → Stands ws s (absorb p g)
 joined-stands {ws} {prev} {cur} {s} {p} {g} v a b =
     let n = length-append (p .txs) (g .txs) in
     record {
@@ -82,33 +82,33 @@ module _ {ws : List ℕ} {cur prev : Summary} {g p : Group} (a : Stands ws cur g
       (λ n. none-any (λ t. anyOf (memAt ws t) (p .txs)) (g .txs) (λ t e. none-any (memAt ws t) (p .txs) (apart n t e)))
       (λ n. mem-disjoint (cur .deps) (prev .set) (unmet n))
 
+-- an array with s at the place k, and all else as it was
+pub record Stored (old new : ℕ → Summary) (k : ℕ) (s : Summary) : Type 0 where
+  pub here : new k ≡ s
+  pub there : (i : ℕ) → (i ≡ k → ⊥) → new i ≡ old i
+
 -- summaries of an array stand for these groups: the bottom one's at `place 0`, the next one's at `place 1`, and so on up to the first
-pub data Stack (place : ℕ → ℕ) (ws : List ℕ) (xs : List Summary) : List Group → Type 0 where
+pub data Stack (place : ℕ → ℕ) (ws : List ℕ) (xs : ℕ → Summary) : List Group → Type 0 where
   none : Stack place ws xs []
-  more : (g : Group) (gs : List Group) → 0 < length (g .txs) → ((d : Summary) → Stands ws (getD xs (place (length gs)) d) g) → Stack place ws xs gs
+  more : (g : Group) (gs : List Group) → 0 < length (g .txs) → Stands ws (xs (place (length gs))) g → Stack place ws xs gs
       → Stack place ws xs (g ∷ gs)
 
 -- from the array's start upwards
-abbrev pub Near : List ℕ → List Summary → List Group → Type 0
+abbrev pub Near : List ℕ → (ℕ → Summary) → List Group → Type 0
 Near = Stack (λ n. n)
 
--- the last place of an array with one for each position
-abbrev pub last : ℕ
-last = positions - 1
+-- from the last of m places downwards
+abbrev pub Far : ℕ → List ℕ → (ℕ → Summary) → List Group → Type 0
+Far m = Stack (λ n. m - 1 - n)
 
--- from that place downwards
-abbrev pub Far : List ℕ → List Summary → List Group → Type 0
-Far = Stack (λ n. last - n)
-
-module _ {place : ℕ → ℕ} {ws : List ℕ} {xs : List Summary} where
+module _ {place : ℕ → ℕ} {ws : List ℕ} {old new : ℕ → Summary} {k : ℕ} {s : Summary} (e : Stored old new k s) where
   -- a store at none of its places leaves a stack as it is
-  pub stack-kept : {gs : List Group} (k : ℕ) (s : Summary) → ((n : ℕ) → n < length gs → place n ≡ k → ⊥) → Stack place ws xs gs → Stack place ws (set xs k s) gs
-  stack-kept k s h none = none
-  stack-kept k s h (more g gs n t v) =
-      more g gs n (λ d. rw (getD-set-other xs k (place (length gs)) s d (h (length gs) (omega arith))) (t d))
-      (stack-kept k s (λ i l. h i (omega arith)) v)
+  pub stack-kept : {gs : List Group} → ((n : ℕ) → n < length gs → place n ≡ k → ⊥) → Stack place ws old gs → Stack place ws new gs
+  stack-kept h none = none
+  stack-kept h (more g gs n t v) =
+      more g gs n (rw (e .there (place (length gs)) (h (length gs) (omega arith))) t) (stack-kept (λ i l. h i (omega arith)) v)
 
   -- a store at the place after them is a push
-  pub stack-push : {gs : List Group} {s : Summary} {g : Group} → Stack place ws xs gs → place (length gs) < length xs
-      → ((n : ℕ) → n < length gs → place n ≡ place (length gs) → ⊥) → Stands ws s g → Stack place ws (set xs (place (length gs)) s) (g ∷ gs)
-  stack-push {gs} {s} {g} v h o a = more g gs (a .some) (λ d. rw (getD-set-same xs (place (length gs)) s d h) a) (stack-kept (place (length gs)) s o v)
+  pub stack-push : {gs : List Group} {g : Group} → Stack place ws old gs → k ≡ place (length gs)
+      → ((n : ℕ) → n < length gs → place n ≡ place (length gs) → ⊥) → Stands ws s g → Stack place ws new (g ∷ gs)
+  stack-push {gs} {g} v h o a = more g gs (a .some) (rw (sym h, e .here) a) (stack-kept (λ n i z. o n i (z ∙ h)) v)

@@ -1,5 +1,6 @@
 pub mod Groups
 pub mod Ordered
+pub mod Rows
 pub mod Scan
 pub mod Theorems
 pub mod Turns

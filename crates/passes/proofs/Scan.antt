@@ -5,16 +5,16 @@ use mathlib.Core.List.{List, [], _∷_, _++_, reverseAux, append-nil, append-ass
 use Prim.Native.Nat.{ℕ, suc, _+_, _-_, _≤_, _<_}
 use native.Mathlib.Numerals.{add-one}
 use native.Mathlib.Omega.{arith}
-use lib.ListN.{length, take, drop, getD, set, length-append, length-drop, length-set, take-append-drop, drop-of-length-le}
+use lib.ListN.{length, take, drop, getD, length-append, length-drop, take-append-drop, drop-of-length-le}
 use lib.Seq.{length-take-le, take-all, take-at, drop-at, take-suc, drop-cons, getD-at, take-append-add, drop-append-add}
 use Rattle.feefrac.specs.declared.FeeFrac.{FeeFrac}
 use Rattle.feefrac.specs.Rate.{higher}
-use Rattle.txset.specs.Sets.{overlap, memAt, positions}
+use Rattle.txset.specs.Sets.{overlap, memAt}
 use Rattle.passes.specs.declared.pass.Group.{Group as Summary}
 use Rattle.passes.specs.Moves.{brought}
 use Rattle.passes.specs.Summary.{Joined}
 use Rattle.passes.specs.Pass.{Group, absorb, dependsOn, settle, alone, groupsAfter, flat, onePass}
-use Rattle.passes.proofs.Groups.{Stands, joined-stands, overlap-depends, Stack, none, more, Near, Far, stack-kept, stack-push, last}
+use Rattle.passes.proofs.Groups.{Stands, joined-stands, overlap-depends, Stack, none, more, Near, Far, Stored, stack-kept, stack-push}
 use Rattle.passes.proofs.Turns.{mid-at, put-at, length-brought}
 
 -- ---- lists of groups
@@ -38,7 +38,7 @@ after-snoc rate dep gs [] t = refl
 after-snoc rate dep gs (u ∷ ts) t = after-snoc rate dep (settle dep (alone rate u) gs) ts t
 
 -- a group of a stack has a member
-few-flat : {place : ℕ → ℕ} {ws : List ℕ} {xs : List Summary} {gs : List Group} → Stack place ws xs gs → length gs ≤ length (flat gs)
+few-flat : {place : ℕ → ℕ} {ws : List ℕ} {xs : ℕ → Summary} {gs : List Group} → Stack place ws xs gs → length gs ≤ length (flat gs)
 unfolding flat
 few-flat none = omega arith
 few-flat (more g gs n t v) = omega (arith, few-flat v, length-append (flat gs) (g .txs))
@@ -51,34 +51,33 @@ length-behind (g ∷ gs) = omega (arith, length-behind gs, length-append (g .txs
 -- ---- at the head of the loop over the members
 
 -- the list has the members of the groups gs, k in all, and then the rest; the first `count` summaries stand for gs
-pub record Held (ws : List ℕ) (gs : List Group) (rest order : List ℕ) (groups : List Summary) (count k : ℕ) : Type 0 where
+pub record Held (ws : List ℕ) (gs : List Group) (rest order : List ℕ) (groups : ℕ → Summary) (count k : ℕ) : Type 0 where
   pub stack : Near ws groups gs
   pub many : count ≡ length gs
   pub size : k ≡ length (flat gs)
   pub lies : order ≡ flat gs ++ rest
 
 -- the first k members have made their groups
-pub record Outer (rate : ℕ → FeeFrac) (ws order₀ order : List ℕ) (groups : List Summary) (count k : ℕ) : Type 0 where
+pub record Outer (m : ℕ) (rate : ℕ → FeeFrac) (ws order₀ order : List ℕ) (groups : ℕ → Summary) (count k : ℕ) : Type 0 where
   pub held : Held ws (groupsAfter rate (memAt ws) [] (take k order₀)) (drop k order₀) order groups count k
   pub within : k ≤ length order₀
   pub same : length order ≡ length order₀
-  pub small : length order ≤ positions
-  pub long : length groups ≡ positions
+  pub small : length order ≤ m
 
-pub outer-start : (rate : ℕ → FeeFrac) (ws order : List ℕ) (groups : List Summary) → length groups ≡ positions → length order ≤ positions
-    → Outer rate ws order order groups 0 0
+pub outer-start : {m : ℕ} (rate : ℕ → FeeFrac) (ws order : List ℕ) (groups : ℕ → Summary) → length order ≤ m
+    → Outer m rate ws order order groups 0 0
 unfolding groupsAfter flat
-outer-start rate ws order groups a h =
-    record { held = record { stack = none; many = refl; size = refl; lies = refl }; within = omega arith; same = refl; small = h; long = a }
+outer-start rate ws order groups h =
+    record { held = record { stack = none; many = refl; size = refl; lies = refl }; within = omega arith; same = refl; small = h }
 
 -- ---- in the scan
 
 -- the groups bs are below the current one, g, and os were stepped over, the last one first: `ahead` of their members stand in
 -- front of g's, the others behind; the array has bs at its start and os at its end; what comes of it is `goal`
-pub record State (ws : List ℕ) (goal : List Group) (rest order : List ℕ) (groups : List Summary) (cur : Summary) (below from ahead over : ℕ)
+pub record State (m : ℕ) (ws : List ℕ) (goal : List Group) (rest order : List ℕ) (groups : ℕ → Summary) (cur : Summary) (below from ahead over : ℕ)
     (bs os : List Group) (g : Group) : Type 0 where
   pub under : Near ws groups bs
-  pub gone : Far ws groups os
+  pub gone : Far m ws groups os
   pub current : Stands ws cur g
   pub low : below ≡ length bs
   pub high : over ≡ length os
@@ -88,31 +87,31 @@ pub record State (ws : List ℕ) (goal : List Group) (rest order : List ℕ) (gr
   pub comes : reverseAux os (settle (memAt ws) g bs) ≡ goal
 
 -- the same of some groups
-pub record Scan (ws : List ℕ) (goal : List Group) (rest order : List ℕ) (groups : List Summary) (cur : Summary)
+pub record Scan (m : ℕ) (ws : List ℕ) (goal : List Group) (rest order : List ℕ) (groups : ℕ → Summary) (cur : Summary)
     (below from ahead over : ℕ) : Type 0 where
   pub bs : List Group
   pub os : List Group
   pub g : Group
-  pub state : State ws goal rest order groups cur below from ahead over bs os g
+  pub state : State m ws goal rest order groups cur below from ahead over bs os g
 
 -- the same where `prev` is the summary of the group p on top of those below
-pub record Top (ws : List ℕ) (goal : List Group) (rest order : List ℕ) (groups : List Summary) (cur : Summary) (below from ahead over : ℕ)
+pub record Top (m : ℕ) (ws : List ℕ) (goal : List Group) (rest order : List ℕ) (groups : ℕ → Summary) (cur : Summary) (below from ahead over : ℕ)
     (prev : Summary) : Type 0 where
   pub p : Group
   pub bs : List Group
   pub os : List Group
   pub g : Group
-  pub state : State ws goal rest order groups cur below from ahead over (p ∷ bs) os g
+  pub state : State m ws goal rest order groups cur below from ahead over (p ∷ bs) os g
   pub under : Near ws groups bs
   pub top : Stands ws prev p
 
 -- the same where the scan is over
-pub record Rest (ws : List ℕ) (goal : List Group) (rest order : List ℕ) (groups : List Summary) (cur : Summary)
+pub record Rest (m : ℕ) (ws : List ℕ) (goal : List Group) (rest order : List ℕ) (groups : ℕ → Summary) (cur : Summary)
     (below from ahead over : ℕ) : Type 0 where
   pub bs : List Group
   pub os : List Group
   pub g : Group
-  pub state : State ws goal rest order groups cur below from ahead over bs os g
+  pub state : State m ws goal rest order groups cur below from ahead over bs os g
   pub settled : settle (memAt ws) g bs ≡ g ∷ bs
 
 -- how far the numbers of a scan go
@@ -121,18 +120,18 @@ pub record Room (order : List ℕ) (cur : Summary) (below from ahead over : ℕ)
   pub few : below + over < length order
 
 -- at the head of the scan for the member t: whatever the groups gs and the rest of the list were where it began, it works t into gs
-pub record Inner (rate : ℕ → FeeFrac) (ws order₀ : List ℕ) (groups₀ : List Summary) (count k t : ℕ) (order : List ℕ) (groups : List Summary) (cur : Summary)
+pub record Inner (m : ℕ) (rate : ℕ → FeeFrac) (ws order₀ : List ℕ) (groups₀ : ℕ → Summary) (count k t : ℕ) (order : List ℕ)
+    (groups : ℕ → Summary) (cur : Summary)
     (below from ahead over : ℕ) : Type 0 where
   pub same : length order ≡ length order₀
-  pub small : length order ≤ positions
-  pub long : length groups ≡ positions
+  pub small : length order ≤ m
   pub room : Room order cur below from ahead over
   pub scan : (gs : List Group) (rest : List ℕ) → Held ws gs (t ∷ rest) order₀ groups₀ count k
-      → Scan ws (settle (memAt ws) (alone rate t) gs) rest order groups cur below from ahead over
+      → Scan m ws (settle (memAt ws) (alone rate t) gs) rest order groups cur below from ahead over
 
-pub scan-start : {ws : List ℕ} {gs : List Group} {t : ℕ} {rest order : List ℕ} {groups : List Summary} {count k : ℕ} {cur : Summary}
+pub scan-start : {m : ℕ} {ws : List ℕ} {gs : List Group} {t : ℕ} {rest order : List ℕ} {groups : ℕ → Summary} {count k : ℕ} {cur : Summary}
     (rate : ℕ → FeeFrac) → Held ws gs (t ∷ rest) order groups count k → Stands ws cur (alone rate t)
-    → Scan ws (settle (memAt ws) (alone rate t) gs) rest order groups cur count k 0 0
+    → Scan m ws (settle (memAt ws) (alone rate t) gs) rest order groups cur count k 0 0
 unfolding behind
 scan-start {gs = gs} {t = t} rate v a =
     record {
@@ -152,19 +151,19 @@ scan-start {gs = gs} {t = t} rate v a =
       };
     }
 
-module _ {ws : List ℕ} {goal : List Group} {rest order : List ℕ} {groups : List Summary} {cur : Summary} {below from ahead over : ℕ} where
-  pub uncover : (d : Summary) → Scan ws goal rest order groups cur below from ahead over → 0 < below
-      → Top ws goal rest order groups cur below from ahead over (getD groups (below - 1) d)
-  uncover d v h = go (v .state .under) (v .state)
+module _ {m : ℕ} {ws : List ℕ} {goal : List Group} {rest order : List ℕ} {groups : ℕ → Summary} {cur : Summary} {below from ahead over : ℕ} where
+  pub uncover : {prev : Summary} → prev ≡ groups (below - 1) → Scan m ws goal rest order groups cur below from ahead over → 0 < below
+      → Top m ws goal rest order groups cur below from ahead over prev
+  uncover {prev} is v h = go (v .state .under) (v .state)
     where
-      go : {bs : List Group} → Near ws groups bs → State ws goal rest order groups cur below from ahead over bs (v .os) (v .g)
-          → Top ws goal rest order groups cur below from ahead over (getD groups (below - 1) d)
+      go : {bs : List Group} → Near ws groups bs → State m ws goal rest order groups cur below from ahead over bs (v .os) (v .g)
+          → Top m ws goal rest order groups cur below from ahead over prev
       go none s = absurd (omega (arith, s .low))
       go (more p bs n t w) s =
           let e : below - 1 ≡ length bs = omega (arith, s .low) in
-          record { p = p; bs = bs; os = v .os; g = v .g; state = s; under = w; top = rw e (t d) }
+          record { p = p; bs = bs; os = v .os; g = v .g; state = s; under = w; top = rw (is, e) t }
 
-  module _ {bs os : List Group} {g : Group} (s : State ws goal rest order groups cur below from ahead over bs os g) where
+  module _ {bs os : List Group} {g : Group} (s : State m ws goal rest order groups cur below from ahead over bs os g) where
     abbrev front : List ℕ
     front = take ahead (behind os)
 
@@ -208,7 +207,7 @@ module _ {ws : List ℕ} {goal : List Group} {rest order : List ℕ} {groups : L
         (append-assoc (g .txs) front (back ++ rest)
         ∙ ap (λ (l : List ℕ). g .txs ++ l) (sym (append-assoc front back rest) ∙ ap (λ (l : List ℕ). l ++ rest) (take-append-drop ahead (behind os))))
 
-  pub scan-room : Scan ws goal rest order groups cur below from ahead over → Room order cur below from ahead over
+  pub scan-room : Scan m ws goal rest order groups cur below from ahead over → Room order cur below from ahead over
   scan-room v =
       let s = v .state in
       record {
@@ -216,7 +215,7 @@ module _ {ws : List ℕ} {goal : List Group} {rest order : List ℕ} {groups : L
         few = omega (arith, state-size s, few-flat (s .under), few-flat (s .gone), length-behind (v .os), s .low, s .high, s .current .some);
       }
 
-  pub rest-empty : Scan ws goal rest order groups cur below from ahead over → below ≡ 0 → Rest ws goal rest order groups cur below from ahead over
+  pub rest-empty : Scan m ws goal rest order groups cur below from ahead over → below ≡ 0 → Rest m ws goal rest order groups cur below from ahead over
   unfolding settle
   rest-empty v e = record { bs = v .bs; os = v .os; g = v .g; state = v .state; settled = go (v .bs) (omega (arith, v .state .low)) }
     where
@@ -224,7 +223,7 @@ module _ {ws : List ℕ} {goal : List Group} {rest order : List ℕ} {groups : L
       go [] n = refl
       go (b ∷ bs) n = absurd (omega arith)
 
-  module _ {prev : Summary} (u : Top ws goal rest order groups cur below from ahead over prev) where
+  module _ {prev : Summary} (u : Top m ws goal rest order groups cur below from ahead over prev) where
     -- the group on top stands in the list before the members ahead
     pub top-len : prev .len ≤ from
     unfolding flat
@@ -251,12 +250,12 @@ module _ {ws : List ℕ} {goal : List Group} {rest order : List ℕ} {groups : L
     unfolding settle
     settle-stop h = rw (is-above ∙ h)
 
-    pub rest-top : higher (cur .rate) (prev .rate) ≡ false → Rest ws goal rest order groups cur below from ahead over
+    pub rest-top : higher (cur .rate) (prev .rate) ≡ false → Rest m ws goal rest order groups cur below from ahead over
     rest-top h = record { bs = u .p ∷ u .bs; os = u .os; g = u .g; state = u .state; settled = settle-stop h }
 
     -- the current group moves up to the one before it, and the two are one
     pub scan-merge : {both : Summary} → higher (cur .rate) (prev .rate) ≡ true → overlap (cur .deps) (prev .set) ≡ true → Joined prev cur both
-        → Scan ws goal rest (brought order from ahead (cur .len)) groups both (below - 1) (from - prev .len) 0 over
+        → Scan m ws goal rest (brought order from ahead (cur .len)) groups both (below - 1) (from - prev .len) 0 over
     unfolding flat
     scan-merge h d j =
         let s = u .state in
@@ -279,10 +278,11 @@ module _ {ws : List ℕ} {goal : List Group} {rest order : List ℕ} {groups : L
         }
 
     -- the current group leaves the one before it as it is
-    pub scan-step : higher (cur .rate) (prev .rate) ≡ true → overlap (cur .deps) (prev .set) ≡ false → length groups ≡ positions → below + over < positions
-        → Scan ws goal rest order (set groups (last - over) prev) cur (below - 1) (from - prev .len) (ahead + prev .len) (over + 1)
+    pub scan-step : higher (cur .rate) (prev .rate) ≡ true → overlap (cur .deps) (prev .set) ≡ false → {new : ℕ → Summary}
+        → Stored groups new (m - 1 - over) prev → below + over < m
+        → Scan m ws goal rest order new cur (below - 1) (from - prev .len) (ahead + prev .len) (over + 1)
     unfolding flat behind
-    scan-step h d l r =
+    scan-step h d e r =
         let s = u .state in
         let size : ahead + prev .len ≡ length (u .p .txs) + ahead = omega (arith, u .top .len) in
         let long = length-append (u .p .txs) (behind (u .os)) in
@@ -297,8 +297,8 @@ module _ {ws : List ℕ} {goal : List Group} {rest order : List ℕ} {groups : L
           os = u .p ∷ u .os;
           g = u .g;
           state = record {
-            under = stack-kept (last - over) prev (λ n i e. omega (arith, s .low)) (u .under);
-            gone = rw (s .high) (stack-push (s .gone) (omega (arith, s .high)) (λ n i e. omega (arith, s .high)) (u .top));
+            under = stack-kept e (λ n i z. omega (arith, s .low)) (u .under);
+            gone = stack-push e (s .gone) (ap (λ (n : ℕ). m - 1 - n) (s .high)) (λ n i z. omega (arith, s .high)) (u .top);
             current = s .current;
             low = omega (arith, s .low);
             high = omega (arith, s .high);
@@ -316,28 +316,28 @@ module _ {ws : List ℕ} {goal : List Group} {rest order : List ℕ} {groups : L
 -- ---- after the scan
 
 -- the groups stepped over go back on top, one by one: bs stand in the array already, os are still to come
-pub record Back (ws : List ℕ) (goal : List Group) (groups : List Summary) (count over : ℕ) : Type 0 where
+pub record Back (m : ℕ) (ws : List ℕ) (goal : List Group) (groups : ℕ → Summary) (count over : ℕ) : Type 0 where
   pub bs : List Group
   pub os : List Group
   pub under : Near ws groups bs
-  pub gone : Far ws groups os
+  pub gone : Far m ws groups os
   pub low : count ≡ length bs
   pub high : over ≡ length os
   pub comes : reverseAux os bs ≡ goal
 
-module _ {ws : List ℕ} {goal : List Group} {rest order : List ℕ} {groups : List Summary} {cur : Summary} {below from ahead over : ℕ}
-    (v : Rest ws goal rest order groups cur below from ahead over) where
+module _ {m : ℕ} {ws : List ℕ} {goal : List Group} {rest order : List ℕ} {groups : ℕ → Summary} {cur : Summary} {below from ahead over : ℕ}
+    (v : Rest m ws goal rest order groups cur below from ahead over) where
   comes-to : reverseAux (v .os) (v .g ∷ v .bs) ≡ goal
   comes-to = ap (reverseAux (v .os)) (sym (v .settled)) ∙ v .state .comes
 
-  pub placed : length groups ≡ positions → below + over < positions → Back ws goal (set groups below cur) (below + 1) over
-  placed l r =
+  pub placed : {new : ℕ → Summary} → Stored groups new below cur → below + over < m → Back m ws goal new (below + 1) over
+  placed e r =
       let s = v .state in
       record {
         bs = v .g ∷ v .bs;
         os = v .os;
-        under = rw (s .low) (stack-push (s .under) (omega (arith, s .low)) (λ n i e. omega arith) (s .current));
-        gone = stack-kept below cur (λ n i e. omega (arith, s .high)) (s .gone);
+        under = stack-push e (s .under) (s .low) (λ n i z. omega arith) (s .current);
+        gone = stack-kept e (λ n i z. omega (arith, s .high)) (s .gone);
         low = omega (arith, s .low);
         high = s .high;
         comes = comes-to;
@@ -353,30 +353,30 @@ module _ {ws : List ℕ} {goal : List Group} {rest order : List ℕ} {groups : L
       ∙ sym (append-assoc (flat (v .bs) ++ txs) gone rest)
       ∙ ap (λ (l : List ℕ). l ++ rest) (sym (flat-back (v .os) (v .g ∷ v .bs)) ∙ ap flat comes-to)
 
-pub back-turn : {ws : List ℕ} {goal : List Group} {groups : List Summary} {count over : ℕ} (d : Summary)
-    → Back ws goal groups count over → 0 < over → length groups ≡ positions → count + over ≤ positions
-    → Back ws goal (set groups count (getD groups (last - (over - 1)) d)) (count + 1) (over - 1)
-back-turn {ws} {goal} {groups} {count} {over} d v h l r = go (v .gone) (v .high) (v .comes)
+pub back-turn : {m : ℕ} {ws : List ℕ} {goal : List Group} {groups new : ℕ → Summary} {count over : ℕ}
+    → Back m ws goal groups count over → 0 < over → count + over ≤ m → {prev : Summary}
+    → prev ≡ groups (m - 1 - (over - 1)) → Stored groups new count prev
+    → Back m ws goal new (count + 1) (over - 1)
+back-turn {m} {ws} {goal} {groups} {new} {count} {over} v h r is f = go (v .gone) (v .high) (v .comes)
   where
-    go : {os : List Group} → Far ws groups os → over ≡ length os → reverseAux os (v .bs) ≡ goal
-        → Back ws goal (set groups count (getD groups (last - (over - 1)) d)) (count + 1) (over - 1)
+    go : {os : List Group} → Far m ws groups os → over ≡ length os → reverseAux os (v .bs) ≡ goal → Back m ws goal new (count + 1) (over - 1)
     go none e z = absurd (omega arith)
     go (more p os n t w) e z =
         let i : over - 1 ≡ length os = omega arith in
         record {
           bs = p ∷ v .bs;
           os = os;
-          under = rw (v .low) (stack-push (v .under) (omega (arith, v .low)) (λ n j x. omega arith) (rw i (t d)));
-          gone = stack-kept count (getD groups (last - (over - 1)) d) (λ n j x. omega arith) w;
+          under = stack-push f (v .under) (v .low) (λ n j x. omega arith) (rw (is, i) t);
+          gone = stack-kept f (λ n j x. omega arith) w;
           low = omega (arith, v .low);
           high = i;
           comes = z;
         }
 
 -- all are back
-pub back-done : {ws : List ℕ} {goal : List Group} {groups : List Summary} {count over : ℕ} → Back ws goal groups count over → over ≤ 0
+pub back-done : {m : ℕ} {ws : List ℕ} {goal : List Group} {groups : ℕ → Summary} {count over : ℕ} → Back m ws goal groups count over → over ≤ 0
     → (Near ws groups goal) × (count ≡ length goal)
-back-done {ws} {goal} {groups} {count} {over} v h = go (v .os) (omega (arith, v .high)) (v .comes)
+back-done {m} {ws} {goal} {groups} {count} {over} v h = go (v .os) (omega (arith, v .high)) (v .comes)
   where
     go : (os : List Group) → length os ≤ 0 → reverseAux os (v .bs) ≡ goal → (Near ws groups goal) × (count ≡ length goal)
     go [] n z = (rw z at (v .under), v .low ∙ ap length z)
@@ -384,8 +384,8 @@ back-done {ws} {goal} {groups} {count} {over} v h = go (v .os) (omega (arith, v 
 
 -- ---- a member, from the head of the loop to its end
 
-module _ {rate : ℕ → FeeFrac} {ws order₀ order : List ℕ} {groups : List Summary} {count k : ℕ}
-    (v : Outer rate ws order₀ order groups count k) (h : k < length order₀) where
+module _ {m : ℕ} {rate : ℕ → FeeFrac} {ws order₀ order : List ℕ} {groups : ℕ → Summary} {count k : ℕ}
+    (v : Outer m rate ws order₀ order groups count k) (h : k < length order₀) where
   abbrev gs : List Group
   gs = groupsAfter rate (memAt ws) [] (take k order₀)
 
@@ -403,11 +403,12 @@ module _ {rate : ℕ → FeeFrac} {ws order₀ order : List ℕ} {groups : List 
         lies = rw (add-one, next-is) (v .held .lies ∙ ap (λ (l : List ℕ). flat gs ++ l) (drop-cons order₀ k 0 h));
       }
 
-  pub outer-again : {order′ : List ℕ} {groups′ : List Summary} {count′ : ℕ}
-      → (Near ws groups′ (settle (memAt ws) (alone rate (getD order k 0)) gs)) × (count′ ≡ length (settle (memAt ws) (alone rate (getD order k 0)) gs))
+  pub outer-again : {order′ : List ℕ} {groups′ : ℕ → Summary} {count′ : ℕ}
+      → (Near ws groups′ (settle (memAt ws) (alone rate (getD order k 0)) gs))
+      × (count′ ≡ length (settle (memAt ws) (alone rate (getD order k 0)) gs))
       → order′ ≡ flat (settle (memAt ws) (alone rate (getD order k 0)) gs) ++ drop (k + 1) order₀
-      → length order′ ≡ length order → length groups′ ≡ positions → Outer rate ws order₀ order′ groups′ count′ (k + 1)
-  outer-again {order′} {groups′} {count′} b e same long =
+      → length order′ ≡ length order → Outer m rate ws order₀ order′ groups′ count′ (k + 1)
+  outer-again {order′} {groups′} {count′} b e same =
       let goal = settle (memAt ws) (alone rate (getD order k 0)) gs in
       let is : groupsAfter rate (memAt ws) [] (take (k + 1) order₀) ≡ goal =
       rw (add-one, take-suc order₀ k 0 h, after-snoc, next-is)
@@ -422,89 +423,85 @@ module _ {rate : ℕ → FeeFrac} {ws order₀ order : List ℕ} {groups : List 
         within = omega arith;
         same = same ∙ v .same;
         small = omega (arith, v .small);
-        long = long;
       }
 
 -- all members are in their groups
-pub outer-done : {rate : ℕ → FeeFrac} {ws order₀ order : List ℕ} {groups : List Summary} {count k : ℕ}
-    → Outer rate ws order₀ order groups count k → length order₀ ≤ k → order ≡ onePass rate (memAt ws) order₀
+pub outer-done : {m : ℕ} {rate : ℕ → FeeFrac} {ws order₀ order : List ℕ} {groups : ℕ → Summary} {count k : ℕ}
+    → Outer m rate ws order₀ order groups count k → length order₀ ≤ k → order ≡ onePass rate (memAt ws) order₀
 unfolding onePass
-outer-done {rate} {ws} {order₀} {k = k} v h =
+outer-done {m} {rate} {ws} {order₀} {k = k} v h =
     v .held .lies
     ∙ ap₂ (λ (l m : List ℕ). flat (groupsAfter rate (memAt ws) [] l) ++ m) (take-all k order₀ h) (drop-of-length-le order₀ h)
     ∙ append-nil (flat (groupsAfter rate (memAt ws) [] order₀))
 
-module _ {rate : ℕ → FeeFrac} {ws order₀ order : List ℕ} {groups : List Summary} {count k : ℕ} where
+module _ {m : ℕ} {rate : ℕ → FeeFrac} {ws order₀ order : List ℕ} {groups : ℕ → Summary} {count k : ℕ} where
   -- the member is a group of its own, on top of the others
-  pub inner-start : {cur : Summary} → Outer rate ws order₀ order groups count k → k < length order₀ → Stands ws cur (alone rate (getD order k 0))
-      → Inner rate ws order groups count k (getD order k 0) order groups cur count k 0 0
+  pub inner-start : {cur : Summary} → Outer m rate ws order₀ order groups count k → k < length order₀ → Stands ws cur (alone rate (getD order k 0))
+      → Inner m rate ws order groups count k (getD order k 0) order groups cur count k 0 0
   inner-start v h a =
       record {
         same = refl;
         small = v .small;
-        long = v .long;
-        room = scan-room (scan-start rate (outer-next v h) a);
+        room = scan-room {m = m} (scan-start rate (outer-next v h) a);
         scan = λ gs rest g. scan-start rate g a;
       }
 
-module _ {rate : ℕ → FeeFrac} {ws order₀ : List ℕ} {groups₀ : List Summary} {count k t : ℕ} {order : List ℕ} {groups : List Summary} {cur : Summary}
+module _ {m : ℕ} {rate : ℕ → FeeFrac} {ws order₀ : List ℕ} {groups₀ : ℕ → Summary} {count k t : ℕ} {order : List ℕ}
+    {groups : ℕ → Summary} {cur : Summary}
     {below from ahead over : ℕ} {gs : List Group} {rest : List ℕ}
-    (v : Inner rate ws order₀ groups₀ count k t order groups cur below from ahead over) (held : Held ws gs (t ∷ rest) order₀ groups₀ count k)
-    (some : 0 < below) (d : Summary) where
-  abbrev prev : Summary
-  prev = getD groups (below - 1) d
-
+    (v : Inner m rate ws order₀ groups₀ count k t order groups cur below from ahead over) (held : Held ws gs (t ∷ rest) order₀ groups₀ count k)
+    (some : 0 < below) {prev : Summary} (is : prev ≡ groups (below - 1)) where
   pub inner-len : prev .len ≤ from
-  inner-len = top-len (uncover d (v .scan gs rest held) some)
+  inner-len = top-len (uncover is (v .scan gs rest held) some)
 
   pub inner-merge : {new : List ℕ} {both : Summary} → new ≡ brought order from ahead (cur .len)
       → higher (cur .rate) (prev .rate) ≡ true → overlap (cur .deps) (prev .set) ≡ true → Joined prev cur both
-      → Inner rate ws order₀ groups₀ count k t new groups both (below - 1) (from - prev .len) 0 over
+      → Inner m rate ws order₀ groups₀ count k t new groups both (below - 1) (from - prev .len) 0 over
   inner-merge e h o j =
       let long = length-brought from ahead (cur .len) order in
       rw e
       (record {
         same = long ∙ v .same;
         small = omega (arith, v .small);
-        long = v .long;
-        room = scan-room (scan-merge (uncover d (v .scan gs rest held) some) h o j);
-        scan = λ gs rest held. scan-merge (uncover d (v .scan gs rest held) some) h o j;
+        room = scan-room (scan-merge (uncover is (v .scan gs rest held) some) h o j);
+        scan = λ gs rest held. scan-merge (uncover is (v .scan gs rest held) some) h o j;
       })
 
-  pub inner-step : higher (cur .rate) (prev .rate) ≡ true → overlap (cur .deps) (prev .set) ≡ false
-      → Inner rate ws order₀ groups₀ count k t order (set groups (last - over) prev) cur (below - 1) (from - prev .len) (ahead + prev .len) (over + 1)
-  inner-step h o =
-      let apart : below + over < positions = omega (arith, v .room .few, v .small) in
+  pub inner-step : {new : ℕ → Summary} → higher (cur .rate) (prev .rate) ≡ true → overlap (cur .deps) (prev .set) ≡ false
+      → Stored groups new (m - 1 - over) prev
+      → Inner m rate ws order₀ groups₀ count k t order new cur (below - 1) (from - prev .len) (ahead + prev .len) (over + 1)
+  inner-step h o e =
+      let apart : below + over < m = omega (arith, v .room .few, v .small) in
       record {
         same = v .same;
         small = v .small;
-        long = length-set groups (last - over) prev ∙ v .long;
-        room = scan-room (scan-step (uncover d (v .scan gs rest held) some) h o (v .long) apart);
-        scan = λ gs rest held. scan-step (uncover d (v .scan gs rest held) some) h o (v .long) apart;
+        room = scan-room (scan-step (uncover is (v .scan gs rest held) some) h o e apart);
+        scan = λ gs rest held. scan-step (uncover is (v .scan gs rest held) some) h o e apart;
       }
 
 -- why the scan ends, and at what index: no group is left, or the one before is not lower
-pub data Stopped (groups : List Summary) (cur : Summary) (below : ℕ) : ℕ → Type 0 where
+pub data Stopped (groups : ℕ → Summary) (cur : Summary) (below : ℕ) : ℕ → Type 0 where
   at-bottom : below ≡ 0 → Stopped groups cur below 0
-  at-top : (d : Summary) → 0 < below → higher (cur .rate) (getD groups (below - 1) d .rate) ≡ false → Stopped groups cur below below
+  at-top : (prev : Summary) → prev ≡ groups (below - 1) → 0 < below → higher (cur .rate) (prev .rate) ≡ false → Stopped groups cur below below
 
-pub stopped-at : {groups : List Summary} {cur : Summary} {below at : ℕ} → Stopped groups cur below at → at ≡ below
+pub stopped-at : {groups : ℕ → Summary} {cur : Summary} {below at : ℕ} → Stopped groups cur below at → at ≡ below
 stopped-at (at-bottom e) = sym e
-stopped-at (at-top d h e) = refl
+stopped-at (at-top p i h e) = refl
 
-module _ {rate : ℕ → FeeFrac} {ws order₀ : List ℕ} {groups₀ : List Summary} {count k t : ℕ} {order : List ℕ} {groups : List Summary} {cur : Summary}
+module _ {m : ℕ} {rate : ℕ → FeeFrac} {ws order₀ : List ℕ} {groups₀ : ℕ → Summary} {count k t : ℕ} {order : List ℕ}
+    {groups : ℕ → Summary} {cur : Summary}
     {below from ahead over at : ℕ} {gs : List Group} {rest : List ℕ}
-    (v : Inner rate ws order₀ groups₀ count k t order groups cur below from ahead over) (held : Held ws gs (t ∷ rest) order₀ groups₀ count k)
+    (v : Inner m rate ws order₀ groups₀ count k t order groups cur below from ahead over) (held : Held ws gs (t ∷ rest) order₀ groups₀ count k)
     (stop : Stopped groups cur below at) where
-  inner-rest : Rest ws (settle (memAt ws) (alone rate t) gs) rest order groups cur below from ahead over
+  inner-rest : Rest m ws (settle (memAt ws) (alone rate t) gs) rest order groups cur below from ahead over
   inner-rest = go stop
     where
-      go : {at : ℕ} → Stopped groups cur below at → Rest ws (settle (memAt ws) (alone rate t) gs) rest order groups cur below from ahead over
+      go : {at : ℕ} → Stopped groups cur below at → Rest m ws (settle (memAt ws) (alone rate t) gs) rest order groups cur below from ahead over
       go (at-bottom e) = rest-empty (v .scan gs rest held) e
-      go (at-top d h e) = rest-top (uncover d (v .scan gs rest held) h) e
+      go (at-top p i h e) = rest-top (uncover i (v .scan gs rest held) h) e
 
-  pub inner-placed : Back ws (settle (memAt ws) (alone rate t) gs) (set groups at cur) (at + 1) over
-  inner-placed = rw (stopped-at stop) (placed inner-rest (v .long) (omega (arith, v .room .few, v .small)))
+  pub inner-placed : {new : ℕ → Summary} → Stored groups new at cur → Back m ws (settle (memAt ws) (alone rate t) gs) new (at + 1) over
+  inner-placed e = rw (stopped-at stop) (placed inner-rest (rw (stopped-at stop) at e) (omega (arith, v .room .few, v .small)))
 
   pub inner-lies : brought order from ahead (cur .len) ≡ flat (settle (memAt ws) (alone rate t) gs) ++ rest
   inner-lies = placed-lies inner-rest
@@ -513,21 +510,16 @@ module _ {rate : ℕ → FeeFrac} {ws order₀ : List ℕ} {groups₀ : List Sum
   inner-same = length-brought from ahead (cur .len) order ∙ v .same
 
 -- at the head of the loop that puts the groups stepped over back: whatever the groups are
-pub record Moved (ws : List ℕ) (groups₀ : List Summary) (count₀ over₀ : ℕ) (groups : List Summary) (count over : ℕ) : Type 0 where
-  pub long : length groups ≡ positions
-  pub room : count + over ≤ positions
-  pub back : (goal : List Group) → Back ws goal groups₀ count₀ over₀ → Back ws goal groups count over
+pub record Moved (m : ℕ) (ws : List ℕ) (groups₀ : ℕ → Summary) (count₀ over₀ : ℕ) (groups : ℕ → Summary) (count over : ℕ) : Type 0 where
+  pub room : count + over ≤ m
+  pub back : (goal : List Group) → Back m ws goal groups₀ count₀ over₀ → Back m ws goal groups count over
 
-pub moved-start : {ws : List ℕ} {groups : List Summary} {count over : ℕ} → length groups ≡ positions → count + over ≤ positions
-    → Moved ws groups count over groups count over
-moved-start l r = record { long = l; room = r; back = λ goal b. b }
+pub moved-start : {m : ℕ} {ws : List ℕ} {groups : ℕ → Summary} {count over : ℕ} → count + over ≤ m → Moved m ws groups count over groups count over
+moved-start r = record { room = r; back = λ goal b. b }
 
-pub moved-turn : {ws : List ℕ} {groups₀ : List Summary} {count₀ over₀ : ℕ} {groups : List Summary} {count over : ℕ} (d : Summary)
-    → Moved ws groups₀ count₀ over₀ groups count over → 0 < over
-    → Moved ws groups₀ count₀ over₀ (set groups count (getD groups (last - (over - 1)) d)) (count + 1) (over - 1)
-moved-turn {groups = groups} {count = count} {over = over} d v h =
-    record {
-      long = length-set groups count (getD groups (last - (over - 1)) d) ∙ v .long;
-      room = omega (arith, v .room);
-      back = λ goal b. back-turn d (v .back goal b) h (v .long) (v .room);
-    }
+pub moved-turn : {m : ℕ} {ws : List ℕ} {groups₀ : ℕ → Summary} {count₀ over₀ : ℕ} {groups new : ℕ → Summary} {count over : ℕ}
+    → Moved m ws groups₀ count₀ over₀ groups count over → 0 < over → {prev : Summary}
+    → prev ≡ groups (m - 1 - (over - 1)) → Stored groups new count prev
+    → Moved m ws groups₀ count₀ over₀ new (count + 1) (over - 1)
+moved-turn {count = count} {over = over} v h is e =
+    record { room = omega (arith, v .room); back = λ goal b. back-turn (v .back goal b) h (v .room) is e }

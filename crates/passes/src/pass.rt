@@ -1,21 +1,21 @@
-// One pass. The groups stand in an array from its start, the last on top; those that the current group stepped over wait
-// at the array's end, the last one lowest. The two never meet: besides the current group there are fewer of both together
-// than positions. The members of all groups stand in the list itself, one group after the other, so that a merge moves nothing
+// One pass. The groups stand in lent lists, four words and a fee each, from the start, the last on top; those that the current group
+// stepped over wait at the end, the last one lowest. The two never meet: besides the current group there are fewer of both together
+// than members. The members of all groups stand in the list itself, one group after the other, so that a merge moves nothing
 // and a group that steps forward is one rotation.
 ghost use mathlib.Core.Path.{_≡_};
-ghost use Prim.Native.Nat.{_+_, _≤_, _<_};
-ghost use lib.ListN.{length};
+ghost use Prim.Native.Nat.{_+_, _*_, _≤_, _<_};
+ghost use lib.ListN.{length, set};
 ghost use Rattle.txset.specs.Sets.{positions, memAt};
 ghost use Rattle.passes.specs.Pass.{onePass};
 ghost use Rattle.passes.specs.Turned.{turned};
-ghost use Rattle.passes.specs.Summary.{Single, Joined, startOn, mergedOn, passedOn};
+ghost use Rattle.passes.specs.Summary.{Single, Joined, rowAt, putRow, startOn, mergedOn, passedOn};
 use crate::moves;
 use feefrac::FeeFrac;
 use txset::POSITIONS;
 use txset::TxSet;
 
-// The last place of an array with one for each position.
-const LAST: usize = POSITIONS - 1;
+// Up to so many members have small arrays, which are cleared sooner.
+const FEW: usize = 8;
 
 // A run of the list: how many members, which they are, on what they depend, and their feerate sum.
 pub struct Group {
@@ -26,18 +26,6 @@ pub struct Group {
 }
 
 impl Group {
-    // An empty place. It is all zero, so that an array of it is cleared at once.
-    fn none() -> Group
-        ensures { λ r. ⌜ r .len ≡ 0 ⌝ }
-    {
-        Group {
-            len: 0,
-            set: TxSet::empty(),
-            deps: TxSet::empty(),
-            rate: FeeFrac::zero(),
-        }
-    }
-
     fn alone(t: usize, deps: TxSet, rate: FeeFrac) -> Group
         ensures { λ r. ⌜ Single t deps rate r ⌝ }
     {
@@ -60,6 +48,37 @@ impl Group {
             deps: self.deps.union(prev.deps),
             rate: self.rate.add(prev.rate),
         }
+    }
+
+    // The i-th of a list of groups, of which `words` has four words each and `fees` the fees.
+    fn at(words: &[u64], fees: &[i64], i: usize) -> Group
+        requires { ⌜ (i < length (now fees)) × (length (now words) ≡ 4 * length (now fees)) ⌝ }
+        ensures { λ r. ⌜ r ≡ rowAt (now (words .entry)) (now (fees .entry)) i ⌝ }
+    {
+        let w = 4 * i;
+        let fee = fees[i];
+        let size = words[w + 3];
+        Group {
+            len: words[w] as usize,
+            set: TxSet { word: words[w + 1] },
+            deps: TxSet { word: words[w + 2] },
+            rate: FeeFrac { fee, size },
+        }
+    }
+
+    // Writes it as the i-th.
+    fn put(self, words: &mut [u64], fees: &mut [i64], i: usize)
+        requires { ⌜ (i < length (now fees)) × (length (now words) ≡ 4 * length (now fees)) ⌝ }
+        ensures { λ _. ⌜ now (words .exit) ≡ putRow (now (words .entry)) i self ⌝ }
+        ensures { λ _. ⌜ now (fees .exit) ≡ set (now (fees .entry)) i (self .rate .fee) ⌝ }
+    {
+        let w = 4 * i;
+        let fee = self.rate.fee;
+        words[w] = self.len as u64;
+        words[w + 1] = self.set.word;
+        words[w + 2] = self.deps.word;
+        words[w + 3] = self.rate.size;
+        fees[i] = fee;
     }
 }
 
@@ -125,17 +144,59 @@ fn feerate(fees: &[i64], sizes: &[u64], back: bool, t: usize) -> FeeFrac
     rate
 }
 
-// Works the members of the list into groups, one after the other, and leaves the groups' members in the list.
+// The pass over a list of up to as many members as a set has positions.
 pub fn one_pass(fees: &[i64], sizes: &[u64], deps: &[u64], back: bool, order: &mut [usize])
     requires { ⌜ length (now order) ≤ positions ⌝ }
-    ensures { λ _. ⌜ now (order .exit) ≡ onePass (turned back (now (fees .entry)) (now (sizes .entry))) (memAt (now (deps .entry))) (now (order .entry)) ⌝ }
+    ensures { λ _. ⌜ now (order .exit)
+        ≡ onePass (turned back (now (fees .entry)) (now (sizes .entry))) (memAt (now (deps .entry))) (now (order .entry)) ⌝ }
+{
+    if order.len() <= FEW {
+        of_few(fees, sizes, deps, back, order);
+        return;
+    }
+    of_many(fees, sizes, deps, back, order);
+}
+
+fn of_few(fees: &[i64], sizes: &[u64], deps: &[u64], back: bool, order: &mut [usize])
+    requires { ⌜ length (now order) ≤ 8 ⌝ }
+    ensures { λ _. ⌜ now (order .exit)
+        ≡ onePass (turned back (now (fees .entry)) (now (sizes .entry))) (memAt (now (deps .entry))) (now (order .entry)) ⌝ }
+{
+    let mut words = [0u64; FEW * 4];
+    let mut sums = [0i64; FEW];
+    settle_all(fees, sizes, deps, back, &mut words, &mut sums, order);
+}
+
+fn of_many(fees: &[i64], sizes: &[u64], deps: &[u64], back: bool, order: &mut [usize])
+    requires { ⌜ length (now order) ≤ positions ⌝ }
+    ensures { λ _. ⌜ now (order .exit)
+        ≡ onePass (turned back (now (fees .entry)) (now (sizes .entry))) (memAt (now (deps .entry))) (now (order .entry)) ⌝ }
+{
+    let mut words = [0u64; POSITIONS * 4];
+    let mut sums = [0i64; POSITIONS];
+    settle_all(fees, sizes, deps, back, &mut words, &mut sums, order);
+}
+
+// Works the members of the list into groups, one after the other, and leaves the groups' members in the list.
+fn settle_all(
+    fees: &[i64],
+    sizes: &[u64],
+    deps: &[u64],
+    back: bool,
+    words: &mut [u64],
+    sums: &mut [i64],
+    order: &mut [usize],
+)
+    requires { ⌜ (length (now order) ≤ length (now sums)) × (length (now sums) ≤ positions) ⌝ }
+    requires { ⌜ length (now words) ≡ 4 * length (now sums) ⌝ }
+    ensures { λ _. ⌜ now (order .exit)
+        ≡ onePass (turned back (now (fees .entry)) (now (sizes .entry))) (memAt (now (deps .entry))) (now (order .entry)) ⌝ }
 {
     let n = order.len();
-    let none = Group::none();
-    let mut groups = [none; POSITIONS];
+    let places = sums.len();
     let mut count: usize = 0;
     let mut k: usize = 0;
-    // The first k members stand in the list group by group, and the array has the `count` groups.
+    // The first k members stand in the list group by group, and the lists have the `count` groups.
     while k < n {
         let t = order[k];
         let mut cur = Group::alone(t, TxSet::at(deps, t), feerate(fees, sizes, back, t));
@@ -146,7 +207,7 @@ pub fn one_pass(fees: &[i64], sizes: &[u64], deps: &[u64], back: bool, order: &m
             if below == 0 {
                 break 0;
             }
-            let prev = groups[below - 1];
+            let prev = Group::at(words, sums, below - 1);
             if !cur.rate.higher_rate(prev.rate) {
                 break below;
             }
@@ -155,20 +216,19 @@ pub fn one_pass(fees: &[i64], sizes: &[u64], deps: &[u64], back: bool, order: &m
                 way = way.merged(prev.len);
                 cur = cur.absorb_before(prev);
             } else {
-                let waiting = LAST - way.over;
-                groups[waiting] = prev;
+                prev.put(words, sums, places - 1 - way.over);
                 way = way.passed(prev.len);
             }
         };
         moves::bring(order, way.from, way.ahead, cur.len);
-        groups[at] = cur;
+        cur.put(words, sums, at);
         count = at + 1;
         // Those that it passed go back on top, the last one first.
         let mut over = way.over;
         while 0 < over {
             over -= 1;
-            let prev = groups[LAST - over];
-            groups[count] = prev;
+            let prev = Group::at(words, sums, places - 1 - over);
+            prev.put(words, sums, count);
             count += 1;
         }
         k += 1;
