@@ -13,18 +13,20 @@ use lib.Seq.{take-length, take-all, take-take, length-take-le, getD-take}
 use borrow.Author.Tests.{lt-ltb, le-ltb, eq-eqb, ne-eqb, eqb-true}
 use Rattle.txset.specs.declared.TxSet.{TxSet}
 use Rattle.lists.specs.Below.{anyFrom}
-use Rattle.txset.specs.Sets.{positions, isPosition, mem, setAt, putAt, Joined}
+use Rattle.txset.specs.Sets.{positions, isPosition, mem, setAt, putAt, Joined, isEmpty, lowestOf}
 use Rattle.lists.proofs.Numbers.{by-number, below-here, below-else, flip, lt-or-ge}
 use Rattle.ways.specs.Ways.{reach, isCyclic}
 use Rattle.lists.proofs.Ranges.{any-more}
 use Rattle.ways.proofs.Ways.{reach-is, way-from}
 use Rattle.txset.proofs.Sets.{mem-position, length-put, put-at, put-else, at-past}
+use Rattle.txset.proofs.Walk.{lowest-mem}
+use Rattle.txset.proofs.Joins.{Joining, join-start, join-turn}
 use Rattle.depgraph.specs.declared.DepGraph.{DepGraph}
 use Rattle.depgraph.specs.Closed.{Room, Closed, placed}
 use Rattle.depgraph.specs.Graph.{isParent, isAbove, isAncestor}
-use Rattle.depgraph.specs.Steps.{Holds, nothing, withOwn, Owning, Placed}
+use Rattle.depgraph.specs.Steps.{Holds, Within, nothing, withOwn, Owning, Placed}
 use Rattle.depgraph.proofs.Parents.{among, parent-asked}
-use Rattle.lists.proofs.Bools.{asked, clash, is-false}
+use Rattle.lists.proofs.Bools.{asked, clash, is-false, and-both}
 
 -- the sets hold any relation that agrees
 pub holds-as : {f g : ℕ → ℕ → Bool} {up down : List ℕ} → Holds f up down → ((i a : ℕ) → f i a ≡ g i a) → Holds g up down
@@ -38,15 +40,23 @@ has-up {up = up} h i a e = ⊎-elim (λ l. l) (λ l. clash e (sym (h .above i a)
 has-down : {f : ℕ → ℕ → Bool} {up down : List ℕ} → Holds f up down → (i a : ℕ) → f i a ≡ true → a < length down
 has-down {down = down} h i a e = ⊎-elim (λ l. l) (λ l. clash e (sym (h .below i a) ∙ at-past down a i l)) (lt-or-ge a (length down))
 
+-- so has each of a row of the other list, and of a part of it
+module _ {f : ℕ → ℕ → Bool} {up down : List ℕ} (h : Holds f up down) (k : ℕ) {row : TxSet} (part : TxSet) (sub : (i : ℕ) → mem part i ≡ true → mem row i ≡ true) where
+  pub within-up : row ≡ setAt down k → Within part up
+  within-up at = record { has = λ i e. has-up h i k (sym (h .below i k) ∙ ap (λ (s : TxSet). mem s i) (sym at) ∙ sub i e) }
+
+  pub within-down : row ≡ setAt up k → Within part down
+  within-down at = record { has = λ a e. has-down h k a (sym (h .above k a) ∙ ap (λ (s : TxSet). mem s a) (sym at) ∙ sub a e) }
+
 -- where a list has a set for each of the walk, the join is one at every i
-joined-within : {walk extra : TxSet} {old new : List ℕ} → ((i : ℕ) → mem walk i ≡ true → i < length old) → Joined walk extra old new
+joined-within : {walk extra : TxSet} {old new : List ℕ} → Within walk old → Joined walk extra old new
     → (i a : ℕ) → mem (setAt new i) a ≡ (mem (setAt old i) a || (mem walk i && mem extra a))
 joined-within {walk} {extra} {old} {new} within j i a =
     ⊎-elim
     (λ l. j .has i a l)
     (λ l.
     at-past new i a (omega (arith, j .same))
-    ∙ sym (ap₂ (λ (b c : Bool). b || (c && mem extra a)) (at-past old i a l) (is-false (mem walk i) (λ e. absurd (omega (arith, within i e))))))
+    ∙ sym (ap₂ (λ (b c : Bool). b || (c && mem extra a)) (at-past old i a l) (is-false (mem walk i) (λ e. absurd (omega (arith, within .has i e))))))
     (lt-or-ge i (length old))
 
 -- ---- what goes in and what comes out
@@ -142,7 +152,7 @@ link-start f h =
     record { ups = refl; downs = refl; holds = holds-as h (λ j a. ap (λ (b : Bool). b && f j a) (sym (le-ltb j 0 (omega arith)))) }
 
 pub link-turn : (f : ℕ → ℕ → Bool) {n : ℕ} (i : ℕ) (own single : TxSet) {up₀ down₀ up down up' down' : List ℕ} → i < n → Room n up₀ down₀
-    → ((a : ℕ) → f i a ≡ true → a < n) → ((a : ℕ) → mem own a ≡ f i a) → ((j : ℕ) → mem single j ≡ (isPosition j && eqb j i))
+    → Within own down → ((a : ℕ) → mem own a ≡ f i a) → ((j : ℕ) → mem single j ≡ (isPosition j && eqb j i))
     → up' ≡ putAt up i own → Joined own single down down' → Linking f up₀ down₀ up down i → Linking f up₀ down₀ up' down' (i + 1)
 link-turn f {n} i own single {up = up} {down} l room within has-own has-i put join h =
     rw put (record {
@@ -155,7 +165,7 @@ link-turn f {n} i own single {up = up} {down} l room within has-own has-i put jo
             (λ j n. put-else up i own j a n ∙ h .holds .above j a ∙ ap (λ (b : Bool). b && f j a) (sym (below-else j i n)))
             j;
         below = λ j a.
-            joined-within (λ a e. omega (arith, within a (sym (has-own a) ∙ e), h .downs, room .downs)) join a j
+            joined-within within join a j
             ∙ ap₂ _||_ (h .holds .below j a) (ap₂ _&&_ (has-own a) (has-i j))
             ∙ turned-more f i j a (omega (arith, room .few));
       };
@@ -163,6 +173,11 @@ link-turn f {n} i own single {up = up} {down} l room within has-own has-i put jo
 
 pub link-done : (ps : List ℕ) {i : ℕ} {up₀ down₀ up down : List ℕ} → length ps ≡ i → Linking (isParent ps) up₀ down₀ up down i → Holds (isParent ps) up down
 link-done ps e h = holds-as (h .holds) (λ j a. ap (λ (n : ℕ). upTo n (isParent ps) j a) (sym e) ∙ parent-asked ps j a)
+
+-- the parents of a member, which are some of the first n, have a set
+pub parents-within : (ps : List ℕ) (n i : ℕ) (own : TxSet) {down : List ℕ} → n ≤ length ps → n ≤ length down
+    → ((a : ℕ) → mem own a ≡ isParent (take n ps) i a) → Within own down
+parents-within ps n i own l m has-own = record { has = λ a e. omega (arith, among (take n ps) .to i a (sym (has-own a) ∙ e), length-take-le n ps l) }
 
 -- the parents of i among the first n: those that are named, less what is no position below n and less i itself
 parents-of : (m p l e : Bool) → (m ≡ true → p ≡ true) → ((m && (p && l)) && e) ≡ ((l && e) && m)
@@ -182,6 +197,33 @@ own-parents ws n i {named} all met own fits l at has-all has-met has-own a =
     ∙ ap (λ (b : Bool). b && not (eqb a i)) (has-met a ∙ ap (λ (b : Bool). mem named a && b) (has-all a))
     ∙ parents-of (mem named a) (isPosition a) (ltb a n) (not (eqb a i)) (λ e. lt-ltb a positions (mem-position named a e))
     ∙ ap₂ (λ (k : ℕ) (s : TxSet). (ltb a k && not (eqb a i)) && mem s a) (sym (length-take-le n ws fits)) (at ∙ sym (at-take n ws i l))
+
+-- ---- join: the sets so far, and what is left of the walk
+
+pub record Joins (walk extra : TxSet) (old new : List ℕ) (rest : TxSet) : Type 0 where
+  pub joining : Joining walk extra old new rest
+  pub within : Within rest new
+
+pub joins-start : (walk extra : TxSet) (old : List ℕ) → Within walk old → Joins walk extra old old walk
+joins-start walk extra old w = record { joining = join-start walk extra old; within = w }
+
+pub next-within : {walk extra : TxSet} {old new : List ℕ} {rest : TxSet} {p : ℕ} → isEmpty rest ≡ false → p ≡ lowestOf rest
+    → Joins walk extra old new rest → p < length new
+next-within {rest = rest} left e j = rw e (j .within .has (lowestOf rest) (lowest-mem rest left))
+
+pub next-position : (rest : TxSet) {p : ℕ} → isEmpty rest ≡ false → p ≡ lowestOf rest → p < positions
+next-position rest {p} left e = mem-position rest p (rw e (lowest-mem rest left))
+
+pub joins-turn : {walk extra : TxSet} {old new : List ℕ} {rest next : TxSet} {p : ℕ} (u : TxSet)
+    → isEmpty rest ≡ false → p ≡ lowestOf rest → ((i : ℕ) → mem next i ≡ (mem rest i && not (eqb i (lowestOf rest))))
+    → ((a : ℕ) → mem u a ≡ (mem (setAt new p) a || mem extra a)) → Joins walk extra old new rest → Joins walk extra old (putAt new p u) next
+joins-turn {new = new} {rest} {next} {p} u left e n h j =
+    record {
+      joining = join-turn u left e n refl h refl (j .joining);
+      within = record {
+        has = λ i m. rw (length-put new p u) (j .within .has i (and-both (mem rest i) (not (eqb i (lowestOf rest))) (sym (n i) ∙ m) .0));
+      };
+    }
 
 -- ---- close: the links by way of the members below k
 
@@ -207,10 +249,10 @@ by-way r k over under {up} {down} at-up at-down join-up join-down h =
     let has-under : (i : ℕ) → mem under i ≡ reach r k i k = λ i. ap (λ (s : TxSet). mem s i) at-down ∙ h .below i k in
     record {
       above = λ i a.
-          joined-within (λ i e. has-up h i k (sym (has-under i) ∙ e)) join-up i a
+          joined-within (within-up h k under (λ i e. e) at-down) join-up i a
           ∙ ap₂ _||_ (h .above i a) (ap₂ _&&_ (has-under i) (has-over a));
       below = λ i a.
-          joined-within (λ a e. has-down h k a (sym (has-over a) ∙ e)) join-down a i
+          joined-within (within-down h k over (λ i e. e) at-up) join-down a i
           ∙ ap₂ _||_ (h .below i a) (ap₂ _&&_ (has-over a) (has-under i) ∙ and-comm (reach r k k a) (reach r k i k));
     }
 

@@ -1,11 +1,12 @@
 -- What the steps of `DepGraph::new` hand to each other: no contract outside this crate cites this. Assumes nothing.
-use Prim.Native.Nat.{ℕ, _≤_}
+use Prim.Native.Nat.{ℕ, _≤_, _<_}
 use mathlib.Core.Path.{_≡_}
-use mathlib.Core.Bool.{Bool, false, _&&_, _||_}
+use mathlib.Core.Bool.{Bool, true, false, _&&_, _||_}
 use mathlib.Core.List.{List}
 use lib.ListN.{length, take}
 use lib.Dec.{eqb, ltb}
 use Rattle.lists.specs.Below.{anyFrom}
+use Rattle.txset.specs.declared.TxSet.{TxSet}
 use Rattle.txset.specs.Sets.{mem, setAt}
 use Rattle.depgraph.specs.Closed.{Room, placed}
 
@@ -13,6 +14,10 @@ use Rattle.depgraph.specs.Closed.{Room, placed}
 pub record Holds (f : ℕ → ℕ → Bool) (up down : List ℕ) : Type 0 where
   pub above : (i a : ℕ) → mem (setAt up i) a ≡ f i a
   pub below : (i a : ℕ) → mem (setAt down a) i ≡ f i a
+
+-- each of a walk has a set in the list
+pub record Within (walk : TxSet) (ws : List ℕ) : Type 0 where
+  pub has : (i : ℕ) → mem walk i ≡ true → i < length ws
 
 -- no one is related
 abbrev pub nothing : ℕ → ℕ → Bool

@@ -4,12 +4,12 @@
 ghost use Prim.Native.Nat.{ℕ, _≤_};
 ghost use lib.ListN.{length, take};
 ghost use mathlib.Core.Path.{_≡_};
-ghost use mathlib.Core.Bool.{Bool, false, _&&_};
+ghost use mathlib.Core.Bool.{Bool, true, false, _&&_};
 ghost use Rattle.ways.specs.Ways.{reach};
-ghost use Rattle.txset.specs.Sets.{mem, setAt};
+ghost use Rattle.txset.specs.Sets.{mem, setAt, Joined};
 ghost use Rattle.depgraph.specs.Graph.{isParent};
 ghost use Rattle.depgraph.specs.Closed.{Room, Closed, placed};
-ghost use Rattle.depgraph.specs.Steps.{Holds, nothing, Owning, Placed};
+ghost use Rattle.depgraph.specs.Steps.{Holds, Within, nothing, Owning, Placed};
 use txset::POSITIONS;
 use txset::TxSet;
 
@@ -78,13 +78,14 @@ fn link(parents: &[u64], n: usize, ancestors: &mut [u64], descendants: &mut [u64
     while i < n {
         let own = TxSet::at(parents, i).intersection(all).remove(i);
         own.put(ancestors, i);
-        TxSet::singleton(i).join(descendants, own);
+        join(TxSet::singleton(i), descendants, own);
         i += 1;
     }
 }
 
 // Closes the links by way of one member after the other: who is below it gains all that is above it.
 fn close(n: usize, ancestors: &mut [u64], descendants: &mut [u64])
+    requires { ⌜ ((f : ℕ → ℕ → Bool) × Holds f (now ancestors) (now descendants)) ⌝ }
     ensures { λ _. ⌜ ((f : ℕ → ℕ → Bool) → Holds f (now (ancestors .entry)) (now (descendants .entry))
         → Holds (reach f n) (now (ancestors .exit)) (now (descendants .exit))) ⌝ }
 {
@@ -93,15 +94,32 @@ fn close(n: usize, ancestors: &mut [u64], descendants: &mut [u64])
     while k < n {
         let above = TxSet::at(ancestors, k);
         let below = TxSet::at(descendants, k);
-        above.join(ancestors, gaining(below, above));
-        below.join(descendants, gaining(above, below));
+        join(above, ancestors, gaining(below, above));
+        join(below, descendants, gaining(above, below));
         k += 1;
+    }
+}
+
+// Adds the set's members to the i-th of the sets for each i in `walk`. Each has one, so no index is tested.
+fn join(set: TxSet, sets: &mut [u64], walk: TxSet)
+    requires { ⌜ Within walk (now sets) ⌝ }
+    ensures { λ _. ⌜ Joined walk set (now (sets .entry)) (now (sets .exit)) ⌝ }
+{
+    let mut rest = walk;
+    // The sets of those passed have taken the members of this one; all others are as they were.
+    while !rest.is_empty() {
+        let i = rest.lowest();
+        rest = rest.without_lowest();
+        let old = TxSet { word: sets[i] };
+        let new = old.union(set);
+        sets[i] = new.word;
     }
 }
 
 // Those of a walk that gain something of a set: none where it is empty, as it is for who has no parents or no children.
 fn gaining(walk: TxSet, set: TxSet) -> TxSet
     ensures { λ r. ⌜ ((i a : ℕ) → (mem r i && mem set a) ≡ (mem walk i && mem set a)) ⌝ }
+    ensures { λ r. ⌜ ((i : ℕ) → mem r i ≡ true → mem walk i ≡ true) ⌝ }
 {
     if set.is_empty() {
         return set;

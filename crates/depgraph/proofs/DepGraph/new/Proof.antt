@@ -43,7 +43,7 @@ new-spec =
     (λ c κs. search needs)
     (λ c κs. search needs)
     link-requires
-    (λ c κs. search needs)
+    (λ c κs. (_, c .before .before .before .before .before .before .link .ensures))
     include-self-requires
     (λ c. search needs)
     (λ c. search needs)
