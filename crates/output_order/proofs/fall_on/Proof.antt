@@ -15,7 +15,8 @@ returns-3 : tie.Need-returns-3
 returns-3 c =
     let lower = c .before in
     let sized = lower .before .before in
-    falls-below _ _ _ (sized .before .before .if1 .left) (sized .if2 .left) (sym (lower .before .higher-rate .ensures) ∙ lower .if3 .taken) _ (c .insert .ensures)
+    falls-below _ _ _ (sized .before .before .if1 .left) (sized .if2 .left)
+    (sym (lower .before .higher-rate .ensures) ∙ lower .if3 .taken) _ (c .insert .ensures)
 
 returns-4 : tie.Need-returns-4
 returns-4 c = falls-end _ _ _ _ _ (ap (λ (r : FeeFrac). r .size) (c .before .zero .ensures)) (c .empty2 .ensures)

@@ -20,8 +20,10 @@ abbrev μ-loop : tie.MeasureT-loop
 
 loop-holds : tie.Need-loop-holds Inv-loop μ-loop
 loop-holds c =
-    let start = c .before .before .before .before .before in
-    (putting-start _ _ _ _ _ _ _ _ _ (start .pre .1 .0) (c .subtract .ensures) (start .pre .1 .1 .1), within-start (c .subtract .ensures) (start .pre .1 .1 .0))
+    let start = c .before .before .before .before .before in (
+      putting-start _ _ _ _ _ _ _ _ _ (start .pre .1 .0) (c .subtract .ensures) (start .pre .1 .1 .1),
+      within-start (c .subtract .ensures) (start .pre .1 .1 .0),
+    )
 
 returns : tie.Need-returns Inv-loop μ-loop
 returns c =

@@ -18,7 +18,8 @@ loop-holds c =
     let put = c .before .before .before .before in
     let sum = put .before .before .before in
     let start = sum .before .before .before .before .before in
-    survey-start (start .args .sum-fees .now) (start .args .sum-sizes .now) (start .pre .1 .0) (start .pre .1 .1) _ (sum .before .at .ensures) (sum .set-feerate .ensures) (put .put .ensures .0) (put .put .ensures .1)
+    survey-start (start .args .sum-fees .now) (start .args .sum-sizes .now) (start .pre .1 .0) (start .pre .1 .1) _
+    (sum .before .at .ensures) (sum .set-feerate .ensures) (put .put .ensures .0) (put .put .ensures .1)
     (c .empty .ensures)
 
 -- there is a place for the next
@@ -30,7 +31,8 @@ loop-again c =
     let put = c .before .before .before .before in
     let sum = put .before .before .before in
     let turn = sum .before .before in
-    survey-turn (turn .before .loop .inv) (place turn) (sum .before .at2 .ensures) (sum .set-feerate2 .ensures) (put .put2 .ensures .0) (put .put2 .ensures .1)
+    survey-turn (turn .before .loop .inv) (place turn)
+    (sum .before .at2 .ensures) (sum .set-feerate2 .ensures) (put .put2 .ensures .0) (put .put2 .ensures .1)
     (c .fall-on .ensures)
 
 pub survey-spec : {M : Type 1} → statement M
@@ -51,6 +53,6 @@ survey-spec =
     (λ c. record { fits = omega (arith, place (c .before .before .before .before .before .before .before .before .before)) })
     (λ c. search needs)
     loop-again
-    (λ c. c .before .before .loop .inv .fees-long ∙ sym (c .before .before .before .before .before .before .before .before .before .before .before .before .before .before .before .pre .1 .0))
-    (λ c. c .before .before .loop .inv .sizes-long ∙ sym (c .before .before .before .before .before .before .before .before .before .before .before .before .before .before .before .pre .1 .1))
+    (λ c. let loop = c .before .before in loop .loop .inv .fees-long ∙ sym (loop .before .before .before .before .before .before .before .before .before .before .before .before .before .pre .1 .0))
+    (λ c. let loop = c .before .before in loop .loop .inv .sizes-long ∙ sym (loop .before .before .before .before .before .before .before .before .before .before .before .before .before .pre .1 .1))
     (λ c. let inv = c .before .before .loop .inv in (survey-sums inv (c .before .loop-test .left), survey-drops inv (c .before .loop-test .left))))
