@@ -157,6 +157,7 @@ pub fn one_pass(fees: &[i64], sizes: &[u64], deps: &[u64], back: bool, order: &m
     of_many(fees, sizes, deps, back, order);
 }
 
+// The same, with arrays for few groups.
 fn of_few(fees: &[i64], sizes: &[u64], deps: &[u64], back: bool, order: &mut [usize])
     requires { ⌜ length (now order) ≤ 8 ⌝ }
     ensures { λ _. ⌜ now (order .exit)
@@ -167,6 +168,7 @@ fn of_few(fees: &[i64], sizes: &[u64], deps: &[u64], back: bool, order: &mut [us
     settle_all(fees, sizes, deps, back, &mut words, &mut sums, order);
 }
 
+// The same, with arrays for as many groups as there can be.
 fn of_many(fees: &[i64], sizes: &[u64], deps: &[u64], back: bool, order: &mut [usize])
     requires { ⌜ length (now order) ≤ positions ⌝ }
     ensures { λ _. ⌜ now (order .exit)
