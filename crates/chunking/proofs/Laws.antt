@@ -134,7 +134,8 @@ pub outer-push : {rs : List FeeFrac} {fs₀ : List ℤ} {ss₀ ls₀ : List ℕ}
     → fs' ≡ set fs n (c .rate .fee) → ss' ≡ set ss n (c .rate .size) → ls' ≡ set ls n (c .len) → Outer rs fs₀ ss₀ ls₀ fs' ss' ls' (n + 1) (i + 1)
 unfolding count
 outer-push {rs} {fs = fs} {ss} {ls} {n₀} {i} {n} {c} room o v e h k put-fee put-size put-len =
-    let push = stk-push fs ss ls n c (omega (arith, room .fees, o .fees-long, o .few, v .down)) (omega (arith, room .sizes, o .sizes-long, o .few, v .down))
+    let push = stk-push fs ss ls n c (omega (arith, room .fees, o .fees-long, o .few, v .down))
+    (omega (arith, room .sizes, o .sizes-long, o .few, v .down))
     (omega (arith, room .lens, o .lens-long, o .few, v .down)) in
     rw (put-fee, put-size, put-len)
     (record {
@@ -162,7 +163,8 @@ module _ (fs : List ℤ) (ss ls : List ℕ) where
   copy-turn room j h = written-next (lengthsOf (stk fs ss ls j)) room j (getD ls j 0) (length-lengths j) h ∙ rw add-one
 
   -- the room keeps its length
-  pub copied-length : (room : List ℕ) (j : ℕ) {out : List ℕ} → out ≡ lengthsOf (stk fs ss ls j) ++ drop j room → j ≤ length room → length out ≡ length room
+  pub copied-length : (room : List ℕ) (j : ℕ) {out : List ℕ} → out ≡ lengthsOf (stk fs ss ls j) ++ drop j room → j ≤ length room
+      → length out ≡ length room
   copied-length room j e h = rw e (simp (length-append, length-drop, length-lengths) (omega arith))
 
 -- the members are done: the lengths of the lists are the chunk lengths

@@ -41,7 +41,8 @@ has-down : {f : ℕ → ℕ → Bool} {up down : List ℕ} → Holds f up down �
 has-down {down = down} h i a e = ⊎-elim (λ l. l) (λ l. clash e (sym (h .below i a) ∙ at-past down a i l)) (lt-or-ge a (length down))
 
 -- so has each of a row of the other list, and of a part of it
-module _ {f : ℕ → ℕ → Bool} {up down : List ℕ} (h : Holds f up down) (k : ℕ) {row : TxSet} (part : TxSet) (sub : (i : ℕ) → mem part i ≡ true → mem row i ≡ true) where
+module _ {f : ℕ → ℕ → Bool} {up down : List ℕ} (h : Holds f up down) (k : ℕ) {row : TxSet} (part : TxSet)
+    (sub : (i : ℕ) → mem part i ≡ true → mem row i ≡ true) where
   pub within-up : row ≡ setAt down k → Within part up
   within-up at = record { has = λ i e. has-up h i k (sym (h .below i k) ∙ ap (λ (s : TxSet). mem s i) (sym at) ∙ sub i e) }
 
@@ -171,7 +172,8 @@ link-turn f {n} i own single {up = up} {down} l room within has-own has-i put jo
       };
     })
 
-pub link-done : (ps : List ℕ) {i : ℕ} {up₀ down₀ up down : List ℕ} → length ps ≡ i → Linking (isParent ps) up₀ down₀ up down i → Holds (isParent ps) up down
+pub link-done : (ps : List ℕ) {i : ℕ} {up₀ down₀ up down : List ℕ} → length ps ≡ i
+    → Linking (isParent ps) up₀ down₀ up down i → Holds (isParent ps) up down
 link-done ps e h = holds-as (h .holds) (λ j a. ap (λ (n : ℕ). upTo n (isParent ps) j a) (sym e) ∙ parent-asked ps j a)
 
 -- the parents of a member, which are some of the first n, have a set

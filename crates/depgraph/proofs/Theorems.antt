@@ -78,7 +78,8 @@ fewer ps i a acyclic u n =
 
 -- ---- where each member has a place, the graph is that of all of them
 
-pub graph-whole : {ps up₀ down₀ up down : List ℕ} {g : DepGraph} → Room (length ps) up₀ down₀ → Closed (placed ps up₀ down₀) up down g → Closed ps up down g
+pub graph-whole : {ps up₀ down₀ up down : List ℕ} {g : DepGraph} → Room (length ps) up₀ down₀
+    → Closed (placed ps up₀ down₀) up down g → Closed ps up down g
 graph-whole {ps} {up₀} {down₀} {up} {down} {g} r c =
     let all : placed ps up₀ down₀ ≡ ps =
     ap (λ (l : List ℕ). take (length down₀) (take (length up₀) l)) (take-all positions ps (r .few))

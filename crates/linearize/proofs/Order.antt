@@ -71,7 +71,8 @@ module _ (fs : List ℤ) {ps up down : List ℕ} {g : DepGraph} (c : Closed ps u
   is-linear : (ss : List ℕ) → stepsOf fs ss (memAt up) (memAt down) ≡ linearOrder fs ss ps
   unfolding stepsOf linearOrder postLinearize
   is-linear ss =
-      ap₂ (λ (a d : ℕ → ℕ → Bool). outputOrder fs ss a (forwardPass fs ss a (backPass fs ss d (ancestorOrder fs ss a d)))) (ancestors-are c) (descendants-are c)
+      ap₂ (λ (a d : ℕ → ℕ → Bool). outputOrder fs ss a (forwardPass fs ss a (backPass fs ss d (ancestorOrder fs ss a d))))
+      (ancestors-are c) (descendants-are c)
 
   pub linear-done : (ss room : List ℕ) (k : ℕ) (out : List ℕ) → k ≡ length (stepsOf fs ss (memAt up) (memAt down))
       → out ≡ stepsOf fs ss (memAt up) (memAt down) ++ drop k room

@@ -66,9 +66,10 @@ fn improve(
 ) -> Reply
     requires { ⌜ length (now parents) ≡ length (now fees) ⌝ }
     requires { ⌜ Room (length (now parents)) (now ancestors) (now descendants) ⌝ }
-    ensures { λ r. ⌜ r ≡ replyOf refusal (lastRefusals (now (fees .entry)) (now (parents .entry)) (now (order .entry))) (success (length (now (fees .entry)))) ⌝ }
-    ensures { λ _. ⌜ now (order .exit) ≡ keptUnless (lastRefusals (now (fees .entry)) (now (parents .entry)) (now (order .entry))) (now (order .entry))
-        (postLinearize (now (fees .entry)) (now (sizes .entry)) (now (parents .entry)) (now (order .entry))) ⌝ }
+    ensures { λ r. ⌜ r ≡ replyOf refusal (lastRefusals (now (fees .entry)) (now (parents .entry)) (now (order .entry)))
+        (success (length (now (fees .entry)))) ⌝ }
+    ensures { λ _. ⌜ now (order .exit) ≡ keptUnless (lastRefusals (now (fees .entry)) (now (parents .entry)) (now (order .entry)))
+        (now (order .entry)) (postLinearize (now (fees .entry)) (now (sizes .entry)) (now (parents .entry)) (now (order .entry))) ⌝ }
 {
     let n = fees.len();
     let graph = DepGraph::new(parents, ancestors, descendants);

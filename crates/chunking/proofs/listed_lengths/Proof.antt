@@ -39,7 +39,8 @@ returns c =
     let w = c .before .before in
     let g = w .before .before .before .before .before .before .before in
     let h = start g .pre in
-    gathered-lengths (g .gather .ensures) (listed-fees g) (listed-sizes g) _ (h .few) (h .wide) (w .write-chunks .ensures .0) (w .write-chunks .ensures .1)
+    gathered-lengths (g .gather .ensures) (listed-fees g) (listed-sizes g) _ (h .few) (h .wide)
+    (w .write-chunks .ensures .0) (w .write-chunks .ensures .1)
 
 pub listed-lengths-spec : {M : Type 1} → statement M
 listed-lengths-spec =

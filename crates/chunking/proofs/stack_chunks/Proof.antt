@@ -8,8 +8,8 @@ use borrow.Author.Needs.{needs}
 use borrow.Author.Tests.{not-true, not-false}
 use Rattle.feefrac.specs.Rate.{zeroRate}
 use Rattle.chunking.specs.Chunks.{alone, swallow, lengthsOf, rates}
-use Rattle.chunking.proofs.Laws.{length-rates, rates-at, stk, Outer, outer-start, outer-push, copy-turn, copied-length, lengths-done, count-done}
-use Rattle.chunking.proofs.Laws.{Inner, inner-start, join-len, inner-turn, stopped-empty, stopped-top}
+use Rattle.chunking.proofs.Laws.{length-rates, rates-at, stk, Outer, outer-start, outer-push, copy-turn, copied-length}
+use Rattle.chunking.proofs.Laws.{lengths-done, count-done, Inner, inner-start, join-len, inner-turn, stopped-empty, stopped-top}
 use Rattle.chunking.proofs.stack_chunks.Statement.{statement}
 use Rattle.chunking.proofs.stack_chunks.Tie as tie
 
@@ -28,7 +28,8 @@ abbrev μ-loop : tie.MeasureT-loop
 μ-loop fees sizes sum-fees₀ sum-sizes₀ lens₀ room count₀ i₀ sum-fees sum-sizes lens count i = length fees - i
 
 abbrev Inv-loop3 : tie.InvT-loop3
-Inv-loop3 fees sizes sum-fees sum-sizes lens room₀ count i j₀ room j = (j ≤ count) × (room ≡ lengthsOf (stk sum-fees sum-sizes lens j) ++ drop j room₀)
+Inv-loop3 fees sizes sum-fees sum-sizes lens room₀ count i j₀ room j =
+    (j ≤ count) × (room ≡ lengthsOf (stk sum-fees sum-sizes lens j) ++ drop j room₀)
 
 abbrev μ-loop3 : tie.MeasureT-loop3
 μ-loop3 fees sizes sum-fees sum-sizes lens room₀ count i j₀ room j = count - j
@@ -39,7 +40,8 @@ loop-holds c = (search needs, outer-start _ _ _ _)
 loop2-holds : tie.Need-loop2-holds Inv-loop2 μ-loop2 Inv-loop μ-loop Inv-loop3 μ-loop3
 loop2-holds c =
     let loop = c .before .before in
-    inner-start (loop .loop .inv .1) (c .at .ensures ∙ sym (rates-at _ _ _ (loop .before .before .before .before .before .pre .0) (c .before .loop-test .taken)))
+    let same = loop .before .before .before .before .before .pre .0 in
+    inner-start (loop .loop .inv .1) (c .at .ensures ∙ sym (rates-at _ _ _ same (c .before .loop-test .taken)))
 
 -- the last chunk has a place in each list
 stacked-requires : tie.Need-stacked-requires Inv-loop2 μ-loop2 Inv-loop μ-loop Inv-loop3 μ-loop3
@@ -59,9 +61,9 @@ add-len : tie.Need-add-t22 Inv-loop2 μ-loop2 Inv-loop μ-loop Inv-loop3 μ-loop
 add-len c =
     let test = c .before .before .before .before .before .before .before .before .before in
     let start = test .before .before .before .before .before .before .before .before .before in
-    record {
-      fits = omega (arith, join-len (test .before .loop2 .inv) (test .loop2-test .taken) (c .before .before .before .before .before .stacked .ensures), test .before .before .before .loop-test .taken, start .pre .1 .0 .few);
-    }
+    let top = c .before .before .before .before .before .stacked .ensures in
+    let both = join-len (test .before .loop2 .inv) (test .loop2-test .taken) top in
+    record { fits = omega (arith, both, test .before .before .before .loop-test .taken, start .pre .1 .0 .few) }
 
 loop2-again : tie.Need-loop2-again Inv-loop2 μ-loop2 Inv-loop μ-loop Inv-loop3 μ-loop3
 loop2-again c =
@@ -80,12 +82,19 @@ loop2-again c =
 stopped : (c : tie.Left-loop2 Inv-loop2 μ-loop2 Inv-loop μ-loop Inv-loop3 μ-loop3) → let l = c .before .before .before .before .loop in
     swallow (c .before .loop2 .cur) (stk (l .sum-fees) (l .sum-sizes) (l .lens) (c .before .loop2 .count))
     ≡ c .before .loop2 .cur ∷ stk (l .sum-fees) (l .sum-sizes) (l .lens) (c .before .loop2 .count)
-stopped c = ⊎-elim (λ w. stopped-empty _ _ _ _ _ (w .left)) (λ w. stopped-top (c .before .loop2 .inv) (w .0 .taken) (w .4 .ensures) (not-true _ (rw (w .5 .ensures) at (w .6 .taken)))) (c .loop2-test .came)
+stopped c =
+    ⊎-elim
+    (λ w. stopped-empty _ _ _ _ _ (w .left))
+    (λ w. stopped-top (c .before .loop2 .inv) (w .0 .taken) (w .4 .ensures) (not-true _ (rw (w .5 .ensures) at (w .6 .taken))))
+    (c .loop2-test .came)
 
 slice-write-lens : tie.Need-slice-write-lens Inv-loop2 μ-loop2 Inv-loop μ-loop Inv-loop3 μ-loop3
 slice-write-lens c =
-    let l = c .before .before .before .before .before .before .before .before .before .before .loop .inv in
-    omega (arith, c .before .before .before .before .before .before .before .loop2 .inv .down, l .1 .few, c .before .before .before .before .before .before .before .before .before .loop-test .taken, l .1 .lens-long, c .before .before .before .before .before .before .before .before .before .before .before .before .before .before .before .pre .1 .0 .lens)
+    let head = c .before .before .before .before .before .before .before in
+    let turn = head .before .before in
+    let l = turn .before .loop .inv in
+    let room = turn .before .before .before .before .before .before .pre .1 .0 in
+    omega (arith, head .loop2 .inv .down, l .1 .few, turn .loop-test .taken, l .1 .lens-long, room .lens)
 
 loop-again : tie.Need-loop-again Inv-loop2 μ-loop2 Inv-loop μ-loop Inv-loop3 μ-loop3
 loop-again c =
@@ -112,8 +121,9 @@ loop3-holds c = (search needs, refl)
 
 slice-read-room : tie.Need-slice-read-room Inv-loop2 μ-loop2 Inv-loop μ-loop Inv-loop3 μ-loop3
 slice-read-room c =
-    let l = c .before .before .before .before .loop .inv in
-    omega (arith, c .before .loop3-test .taken, l .0, l .1 .few, l .1 .lens-long, c .before .before .before .before .before .before .before .before .before .pre .1 .0 .lens)
+    let end = c .before .before .before .before in
+    let l = end .loop .inv in
+    omega (arith, c .before .loop3-test .taken, l .0, l .1 .few, l .1 .lens-long, end .before .before .before .before .before .pre .1 .0 .lens)
 
 slice-write-room : tie.Need-slice-write-room Inv-loop2 μ-loop2 Inv-loop μ-loop Inv-loop3 μ-loop3
 slice-write-room c = rw (copied-length _ _ _ _ _ (c .before .before .loop3 .inv .1) (search needs)) (search needs)

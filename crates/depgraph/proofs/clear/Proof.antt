@@ -18,7 +18,11 @@ loop-again c =
     let empty = put .before .before in
     let turn = empty .before in
     let head = turn .before in
-    (search needs, clear-turn (head .loop .i) (empty .empty .result) (omega (arith, turn .loop-test .taken, head .loop .inv .1 .same)) (empty .empty .ensures) (put .put .ensures) (head .loop .inv .1))
+    let small = head .loop .inv .1 .same in (
+      search needs,
+      clear-turn (head .loop .i) (empty .empty .result) (omega (arith, turn .loop-test .taken, small)) (empty .empty .ensures)
+          (put .put .ensures) (head .loop .inv .1),
+    )
 
 pub clear-spec : {M : Type 1} → statement M
 clear-spec =
@@ -30,7 +34,7 @@ clear-spec =
     (λ c κs. search needs)
     (λ c κs. search needs)
     (λ c. search needs)
-    (λ c. omega (arith, c .before .before .before .before .before .loop-test .taken, c .before .before .before .before .before .before .loop .inv .1 .same))
+    (λ c. let turn = c .before .before .before .before .before in omega (arith, turn .loop-test .taken, turn .before .loop .inv .1 .same))
     loop-again
     (λ c. c .before .loop .inv .1 .same)
     (λ c. clear-done (omega (arith, c .loop-test .left, c .before .loop .inv .1 .same)) (c .before .loop .inv .1)))

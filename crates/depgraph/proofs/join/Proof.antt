@@ -47,7 +47,8 @@ unfolding setAt putAt
 loop-again c =
     let walk = c .before .before in
     let turn = walk .before .before in
-    joins-turn (c .union .result) (left turn) (walk .before .lowest .ensures) (walk .without-lowest .ensures) (c .union .ensures) (turn .before .before .loop .inv)
+    joins-turn (c .union .result) (left turn) (walk .before .lowest .ensures) (walk .without-lowest .ensures) (c .union .ensures)
+    (turn .before .before .loop .inv)
 
 pub join-spec : {M : Type 1} → statement M
 join-spec =

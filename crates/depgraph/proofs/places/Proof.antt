@@ -14,7 +14,8 @@ positioned c =
     (c .if1 .came)
 
 -- and a set in the first table
-above : (c : tie.Joined2) → let a = c .before .before .args in Left (a .parents .now) (c .if2 .n) (take (length (a .ancestors .now)) (take positions (a .parents .now)))
+above : (c : tie.Joined2) → let a = c .before .before .args in
+    Left (a .parents .now) (c .if2 .n) (take (length (a .ancestors .now)) (take positions (a .parents .now)))
 above c =
     ⊎-elim
     (λ w. rw (w .1) (left-fewer _ (w .0 .taken) (positioned (c .before))))

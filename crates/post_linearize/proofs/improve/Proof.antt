@@ -62,7 +62,8 @@ returns-3 c =
     let is = sym (tested o) ∙ not-false _ (x .if2 .left) in
     succeeds-writes _ _ _ _ (all-past (past (past-1 o) (ap not is)) refl)
     (c .wrote .ensures)
-    (passes _ _ _ _ _ _ (omega (arith, s .pre .0, s .pre .1 .few, order-length _ _ is)) (ancestors-are g) (descendants-are g) _ _ (b .back-pass .ensures) (f .forward-pass .ensures))
+    (passes _ _ _ _ _ _ (omega (arith, s .pre .0, s .pre .1 .few, order-length _ _ is)) (ancestors-are g) (descendants-are g)
+    _ _ (b .back-pass .ensures) (f .forward-pass .ensures))
 
 pub improve-spec : {M : Type 1} → statement M
 improve-spec =

@@ -33,7 +33,8 @@ returns c =
     let link = close .before .before .before .before .before .before .before in
     let places = link .before .before .before .before .before .before .before .before .before .before .before in
     let f = isParent (take (places .places .result) (places .before .before .before .before .before .before .args .parents .now)) in
-    closed-by (places .places .ensures) (own .include-self .ensures (reach f (places .places .result)) (close .close .ensures f (link .link .ensures)))
+    closed-by (places .places .ensures)
+    (own .include-self .ensures (reach f (places .places .result)) (close .close .ensures f (link .link .ensures)))
 
 pub new-spec : {M : Type 1} → statement M
 new-spec =
