@@ -127,8 +127,15 @@ module _ {input : List ℕ} {at : State} {line words : List ℕ} {deltas : List 
   -- its answer is due
   pub answer-due : {words2 : List ℕ} {deltas2 : List ℤ} {marks2 out : List ℕ} {r : Done}
       → Responded (st .lines) (st .pending) (at .printed .number) (lent words2 deltas2 marks2 out) r
-      → Due (at .printed) (take (r .len) out)
-  answer-due h = record { lines = st .lines; pending = st .pending; shown = st .shown; says = h .holds .says }
+      → Due (at .printed) (take (r .len) out) (take (at .len) line) (sessionIn (r .slots) (lent words2 deltas2 marks2 []))
+  answer-due h = record {
+    lines = st .lines;
+    pending = st .pending;
+    shown = st .shown;
+    asks = asks-same (st .gathered);
+    leaves = h .session;
+    says = h .holds .says;
+  }
 
   -- and written
   pub line-answered : {words2 : List ℕ} {deltas2 : List ℤ} {marks2 out : List ℕ} {r : Done} {p : Printed}

@@ -8,7 +8,7 @@ use lib.IntN.{ℤ}
 use Rattle.texts.specs.Places.{split, splitFrom}
 use Rattle.pool_reader.specs.Requests.{longestLine, requestOf}
 use Rattle.pool_session.specs.declared.Done.{Done}
-use Rattle.pool_session.specs.Session.{noPool, slotsOf}
+use Rattle.pool_session.specs.Session.{Session, noPool, slotsOf}
 use Rattle.pool_session.specs.Answers.{textOf}
 use Rattle.pool_session.specs.Program.{lastText, numberBehind, answersFrom, behindLines}
 use Rattle.pool_session.specs.Memory.{Lent, lent, sessionIn}
@@ -37,11 +37,13 @@ pub record Shown (p : Printed) (lines : List (List ℕ)) : Type 0 where
   pub number : p .number ≡ numberBehind (length lines)
   pub bytes : p .bytes ≡ held (length (printedOf lines))
 
--- behind the answers of some lines, this text is that of the next one
-pub record Due (p : Printed) (text : List ℕ) : Type 0 where
+-- behind the answers of some lines, this text is that of the next one, which asks for what this line asks for, and leaves this session
+pub record Due (p : Printed) (text line : List ℕ) (left : Session) : Type 0 where
   pub lines : List (List ℕ)
   pub pending : List ℕ
   pub shown : Shown p lines
+  pub asks : requestOf line ≡ requestOf pending
+  pub leaves : left ≡ behindLines noPool (lines ++ (pending ∷ []))
   pub says : text ≡ textOf (behindLines noPool lines) (p .number) (requestOf pending)
 
 -- and this one that of the input's end

@@ -11,6 +11,7 @@ use Rattle.pool_run.specs.declared.reads.End.{End}
 use Rattle.pool_run.specs.declared.reads.Failure.{Failure}
 use Rattle.pool_run.specs.declared.State.{State}
 use Rattle.pool_run.specs.declared.Stop.{Stop}
+use Rattle.pool_run.specs.declared.Last.{Last}
 use Rattle.pool_run.specs.declared.Stop.the-variants as stop
 use Rattle.pool_run.specs.declared.writes.Printed.{Printed}
 use Rattle.pool_run.specs.Reads.{held}
@@ -39,3 +40,11 @@ pub data Stopped : Stop → State → List ℕ → List ℕ → List ℤ → Lis
       → Stopped stop.Closed at line words deltas marks
   tired : {i : Input} {at : State} {line words : List ℕ} {deltas : List ℤ} {marks : List ℕ} → i .reads ≡ lastNumber
       → Behind (i .bytes) at line words deltas marks → Stopped (stop.Tired i) at line words deltas marks
+
+-- whatever its arrays hold then
+pub record Finished (r : Last) : Type 0 where
+  pub line : List ℕ
+  pub words : List ℕ
+  pub deltas : List ℤ
+  pub marks : List ℕ
+  pub stopped : Stopped (r .stop) (r .at) line words deltas marks

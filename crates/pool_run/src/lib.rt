@@ -9,7 +9,7 @@ ghost use lib.IntN.{ℤ};
 ghost use Rattle.pool_session.specs.Program.{lastText};
 ghost use Rattle.pool_session.specs.Memory.{lent};
 ghost use Rattle.pool_run.specs.Standing.{keptLength, Gathered, Stands, Stood, Told, Holds, Responded};
-ghost use Rattle.pool_run.specs.Stops.{Stopped};
+ghost use Rattle.pool_run.specs.Stops.{Stopped, Finished};
 
 mod counts;
 mod reads;
@@ -26,14 +26,14 @@ use writes::Printed;
 const KEPT: usize = 8193;
 
 // How many slots the pool has, how many bytes are kept of the line that is being read, and what was printed.
-struct State {
+pub struct State {
     slots: usize,
     len: usize,
     printed: Printed,
 }
 
 // Why nothing more is read and printed: the input has ended; a read failed; a write failed; or there were more reads than can be counted.
-enum Stop {
+pub enum Stop {
     Ended(End),
     Failed(Failure),
     Closed,
@@ -41,17 +41,20 @@ enum Stop {
 }
 
 // And where the program stands then.
-struct Last {
+pub struct Last {
     stop: Stop,
     at: State,
 }
 
-pub fn run() {
+// It answers why it stopped, so that a run which reads nothing has no answer to give.
+pub fn run() -> Last
+    ensures { λ r. ⌜ Finished r ⌝ }
+{
     let mut line = [0u8; KEPT];
     let mut memory = words();
     let mut deltas = [0i64; 1024];
     let mut marks = [0u8; 1024];
-    read_all(&mut line, &mut memory, &mut deltas, &mut marks);
+    read_all(&mut line, &mut memory, &mut deltas, &mut marks)
 }
 
 // The words of a table of 1,024 slots.
@@ -217,9 +220,19 @@ fn answer(
     let mut out = [0u8; 90_112];
     let done = respond(at, line, memory, deltas, marks, &mut out);
     let n = done.len;
-    let printed = writes::write_answer(&out[..n], at.printed);
+    let slots = done.slots;
+    let len = at.len;
+    let printed = writes::write_answer(
+        &out[..n],
+        at.printed,
+        &line[..len],
+        slots,
+        memory,
+        deltas,
+        marks,
+    );
     State {
-        slots: done.slots,
+        slots,
         len: 0,
         printed,
     }

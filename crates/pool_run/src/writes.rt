@@ -1,6 +1,8 @@
 // One write of the program's output, and what was written so far. Its private fields make a `Printed` what it is: no other module can make
 // one, so whoever holds one has it from a write, or nothing was written.
 ghost use mathlib.Core.Path.{_≡_};
+ghost use mathlib.Core.List.{[]};
+ghost use Rattle.pool_session.specs.Memory.{lent, sessionIn};
 ghost use lib.ListN.{length};
 ghost use Rattle.pool_run.specs.Reads.{unprinted, Wrote};
 ghost use Rattle.pool_run.specs.Standing.{Due, DueLast};
@@ -39,9 +41,17 @@ pub fn nothing() -> Printed
     }
 }
 
-// A line's answer.
-pub fn write_answer(text: &[u8], before: Printed) -> Printed
-    requires { ⌜ Due before (now text) ⌝ }
+// A line's answer: it asks that it is the answer to this line, which left this session.
+pub fn write_answer(
+    text: &[u8],
+    before: Printed,
+    _line: &[u8],
+    _slots: usize,
+    _memory: &[u64; 39_940],
+    _deltas: &[i64; 1024],
+    _marks: &[u8; 1024],
+) -> Printed
+    requires { ⌜ Due before (now text) (now «_line») (sessionIn «_slots» (lent (now «_memory») (now «_deltas») (now «_marks») [])) ⌝ }
     ensures { λ r. ⌜ Wrote before (length (now (text .entry))) r ⌝ }
 {
     write(text, before)

@@ -14,14 +14,17 @@ within c =
 
 due : tie.Need-write-answer-requires
 due c κs =
-    let called = c .before in
+    let called = c .before .before .before .before .before in
     let stood = called .before .before .before .before .before .before .pre .1 in
     answer-due (stood .stands) (called .respond .ensures (stood .input) (stood .stands))
 
 returns : tie.Need-returns
 returns c =
-    let called = c .before .before in
+    let called = c .before .before .before .before .before .before in
     λ input st. line-answered st (called .respond .ensures input st) (c .write-answer .ensures)
+
+kept : tie.Need-slice-aggregate-write-answer-2
+kept c = sym (length-take-le _ _ (c .before .before .before .before .before .before .before .before .pre .0))
 
 pub answer-spec : {M : Type 1} → statement M
 answer-spec =
@@ -30,5 +33,6 @@ answer-spec =
     (λ c κs. search needs)
     within
     (λ c. sym (length-take-le _ _ (within (c .before))))
+    kept
     due
     returns)
