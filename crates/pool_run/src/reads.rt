@@ -1,6 +1,6 @@
 // One read of the program's input, and how much was read so far. Private fields make an `Input`, an `End` and a `Failure` what they are: no
-// other module can make one, so whoever holds one has it from a read. (It can be held twice: that no read is dropped shows where the bytes
-// are counted, and only there.)
+// other module can make one, so whoever holds one has it from a read. (It can be held twice: that a read's count is not dropped, no contract
+// says.)
 ghost use mathlib.Core.Path.{_≡_};
 ghost use lib.ListN.{length};
 ghost use Rattle.pool_run.specs.Reads.{unread, Gave};
