@@ -1,4 +1,5 @@
 pub mod Mutual
+pub mod Gaps
 pub mod Walks
 pub mod Walking
 pub mod Surveyed

@@ -10,7 +10,7 @@ use native.Mathlib.Omega.{arith}
 use lib.Dec.{eqb, ltb, leb}
 use lib.ListN.{length, getD, take, drop, set}
 use lib.Seq.{length-take-le, getD-take, getD-set-other, take-take, take-suc, take-set-le, split-at}
-use borrow.Author.Tests.{lt-ltb, le-ltb, ltb-true, le-leb, lt-leb, leb-true, eq-eqb, ne-eqb, eqb-true, eqb-false}
+use borrow.Author.Tests.{lt-ltb, le-ltb, le-leb, lt-leb, eq-eqb, ne-eqb, eqb-true, eqb-false}
 use Rattle.lists.specs.Below.{countFrom}
 use Rattle.lists.specs.Lists.{elem, anyOf, distinct}
 use Rattle.lists.proofs.Bools.{clash, cases, is-false}
@@ -21,7 +21,7 @@ use Rattle.txset.specs.declared.TxSet.{TxSet}
 use Rattle.txset.specs.Sets.{hasIn, positions, mem, size, isEmpty, lowestOf}
 use Rattle.txset.proofs.Sets.{empty-mem, mem-position}
 use Rattle.txset.proofs.Walk.{lowest-mem, lowest-position}
-use Rattle.slotsets.specs.SlotSets.{capacity, setWords}
+use Rattle.slotsets.specs.SlotSets.{capacity}
 use Rattle.slotsets.proofs.SlotSets.{set-past}
 use Rattle.pool_table.specs.declared.Side.{Side}
 use Rattle.pool_table.specs.Pool.{Pool, slotAt, slotCount}
@@ -30,7 +30,8 @@ use Rattle.pool_table.specs.Links.{sideOf, linksAt}
 use Rattle.pool_table.proofs.Rows.{whole-slot}
 use Rattle.pool_links.specs.Steps.{isTied, noLink, ofDone, ofSome, childrenTo, Walk, Walking}
 use Rattle.pool_links.proofs.Mutual.{word-mem}
-use Rattle.pool_links.proofs.Walks.{walk-ext, child-slot, some-left, walk-step, push-room, walk-push}
+use Rattle.pool_links.proofs.Gaps.{Gap, gap-same}
+use Rattle.pool_links.proofs.Walks.{walk-ext, some-left, walk-step, push-room, walk-push}
 
 -- the links of a slot of the pool, as they stand in the table
 pub links-own : (p : Pool) (side : Side) (s : ℕ) → s < slotCount p → linksAt p side s ≡ sideOf side (slotAt p s)
@@ -133,6 +134,12 @@ walking-ext {p} {at} {a} {queue = queue} same w =
       head = w .head;
       here = w .here;
     }
+
+-- words without children may be passed
+pub walking-gap : {p : Pool} {at a x y : ℕ} {ws needs queue : List ℕ} {end : ℕ} → ws ≡ slotAt p a .children → x ≤ y → Gap ws x y
+    → Walking p at a (childrenTo p a (64 * x)) needs queue end → Walking p at a (childrenTo p a (64 * y)) needs queue end
+walking-gap {p} {a = a} {x} {y} e up gap w =
+    walking-ext (gap-same (slotAt p a .children) x y up (subst (λ (l : List ℕ). Gap l x y) e gap)) w
 
 module _ (p : Pool) (a j : ℕ) where
   -- at the start all of it is left
@@ -257,22 +264,23 @@ module _ (t : List ℕ) {at : ℕ} {needs queue : List ℕ} {end : ℕ} where
           ∙ ap (λ (x : Bool). ofDone (poolOf t) (take at queue) b c || x) (and-false (eqb b a))
           ∙ or-false (ofDone (poolOf t) (take at queue) b c)
 
-  pub release-done : {a j : ℕ} → setWords ≤ j → Walking (poolOf t) at a (childrenTo (poolOf t) a (64 * j)) needs queue end
+  pub release-done : {a : ℕ} → Walking (poolOf t) at a (childrenTo (poolOf t) a capacity) needs queue end
       → Walk (poolOf t) (ofDone (poolOf t) (take (at + 1) queue)) needs queue end
-  release-done {a} {j} l w = walk-ext all (w .walk)
+  release-done {a} w = walk-ext all (w .walk)
     where
       p : Pool
       p = poolOf t
 
       -- no child is past the last word
-      whole : (c : ℕ) → childrenTo p a (64 * j) c ≡ hasIn (slotAt p a .children) c
+      whole : (c : ℕ) → childrenTo p a capacity c ≡ hasIn (slotAt p a .children) c
       whole c =
           ⊎-elim
-          (λ (m : c < 64 * j). ap (λ (x : Bool). hasIn (slotAt p a .children) c && x) (lt-ltb c (64 * j) m) ∙ and-true (hasIn (slotAt p a .children) c))
-          (λ (m : 64 * j ≤ c).
+          (λ (m : c < capacity).
+          ap (λ (x : Bool). hasIn (slotAt p a .children) c && x) (lt-ltb c capacity m) ∙ and-true (hasIn (slotAt p a .children) c))
+          (λ (m : capacity ≤ c).
           let none = set-past (slotAt p a .children) (whole-slot t a .children) c (omega arith) in
-          ap (λ (x : Bool). x && ltb c (64 * j)) none ∙ sym none)
-          (lt-or-ge c (64 * j))
+          ap (λ (x : Bool). x && ltb c capacity) none ∙ sym none)
+          (lt-or-ge c capacity)
 
       grown : take (at + 1) queue ≡ take at queue ++ (a ∷ [])
       grown =
@@ -287,11 +295,11 @@ module _ (t : List ℕ) {at : ℕ} {needs queue : List ℕ} {end : ℕ} where
       join true false false = refl
       join false e x = refl
 
-      all : (b c : ℕ) → ofSome p (take at queue) a (childrenTo p a (64 * j)) b c ≡ ofDone p (take (at + 1) queue) b c
+      all : (b c : ℕ) → ofSome p (take at queue) a (childrenTo p a capacity) b c ≡ ofDone p (take (at + 1) queue) b c
       all b c =
           ap (λ (x : Bool). ofDone p (take at queue) b c || x)
           (cases (eqb b a)
           (λ e. ap (λ (x : Bool). eqb b a && x) (whole c ∙ ap (λ (i : ℕ). hasIn (slotAt p i .children) c) (sym (eqb-true b a e))))
-          (λ e. ap (λ (x : Bool). x && childrenTo p a (64 * j) c) e ∙ sym (ap (λ (x : Bool). x && hasIn (slotAt p b .children) c) e)))
+          (λ e. ap (λ (x : Bool). x && childrenTo p a capacity c) e ∙ sym (ap (λ (x : Bool). x && hasIn (slotAt p b .children) c) e)))
           ∙ join (elem b (take at queue)) (eqb b a) (hasIn (slotAt p b .children) c)
           ∙ ap (λ (x : Bool). x && hasIn (slotAt p b .children) c) (sym (ap (elem b) grown ∙ elem-snoc b a (take at queue)))

@@ -1,11 +1,12 @@
 // The links of a pool's table, whatever it holds: whether parents and children name each other, and whether no chain of parents closes.
 ghost use mathlib.Core.Path.{_≡_};
-ghost use mathlib.Core.Bool.{true, false, _&&_};
+ghost use mathlib.Core.Bool.{true, false, not, _&&_};
 ghost use mathlib.Core.List.{List};
 ghost use Prim.Native.Nat.{ℕ, _+_, _*_, _<_, _≤_};
+ghost use lib.Dec.{eqb};
 ghost use lib.ListN.{length, getD, take, replicate};
 ghost use Rattle.lists.specs.Below.{countFrom};
-ghost use Rattle.txset.specs.Sets.{hasIn};
+ghost use Rattle.txset.specs.Sets.{hasIn, mem};
 ghost use Rattle.slotsets.specs.SlotSets.{capacity, setWords};
 ghost use Rattle.pool_table.specs.Pool.{slotAt, slotCount};
 ghost use Rattle.pool_table.specs.Words.{isLegal, poolOf};
@@ -88,23 +89,38 @@ fn survey(table: &[u64], needs: &mut [u16], queue: &mut [u16]) -> Found
     Found { linked, end }
 }
 
-// How many members a set has. Most of its words are empty, and a test is less than a count.
+// How many members a set has: those of its filled words.
 fn count(set: &[u64]) -> usize
     requires { ⌜ length (now set) ≡ setWords ⌝ }
     ensures { λ r. ⌜ r ≡ countFrom (hasIn (now (set .entry))) capacity 0 ⌝ }
 {
     let mut members: usize = 0;
-    let mut next: usize = 0;
-    // Those of the first `next` words.
-    while next < SET_WORDS {
-        let word = TxSet { word: set[next] };
-        next += 1;
-        if word.is_empty() {
-            continue;
-        }
-        members += word.count();
+    let mut rest = filled(set);
+    // Those of the words before the lowest in `rest`.
+    while !rest.is_empty() {
+        let j = rest.lowest();
+        rest = rest.without_lowest();
+        members += TxSet { word: set[j] }.count();
     }
     members
+}
+
+// Which words of a set have members. Few have, and which ones a processor can't guess: a branch at each word would go wrong too often. So each
+// word gives a bit without one, and who asks walks the bits that are set.
+fn filled(words: &[u64]) -> TxSet
+    requires { ⌜ length (now words) ≡ setWords ⌝ }
+    ensures { λ r. ⌜ ((k : ℕ) → mem r k ≡ not (eqb (getD (now (words .entry)) k 0) 0)) ⌝ }
+{
+    let mut some = TxSet::empty();
+    let mut k: usize = 0;
+    // Those of the first k words. An `if` that only inserts compiles to a choice; with `continue` it is a branch.
+    while k < SET_WORDS {
+        if words[k] != 0 {
+            some = some.insert(k);
+        }
+        k += 1;
+    }
+    some
 }
 
 // Walks the links from the slot at one place of the queue to its children.
@@ -117,14 +133,11 @@ fn release(table: &[u64], at: usize, needs: &mut [u16], queue: &mut [u16], end: 
     let a = wide(queue[at]);
     let words = links(table, Side::Children, a);
     let mut to = end;
-    let mut next: usize = 0;
-    while next < SET_WORDS {
-        let j = next;
-        next += 1;
+    let mut rest = filled(words);
+    while !rest.is_empty() {
+        let j = rest.lowest();
+        rest = rest.without_lowest();
         let word = TxSet { word: words[j] };
-        if word.is_empty() {
-            continue;
-        }
         let step = release_word(table, at, a, j, word, needs, queue, to);
         if !step.holds {
             return step;

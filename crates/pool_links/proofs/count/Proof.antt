@@ -1,64 +1,83 @@
 use mathlib.Core.Path.{_≡_, refl, sym, ap, _∙_}
+use mathlib.Core.Bool.{false}
 use mathlib.Core.List.{List}
-use Prim.Native.Nat.{ℕ, _+_, _-_, _*_, _≤_}
+use Prim.Native.Nat.{ℕ, _+_, _*_, _<_}
 use native.Mathlib.Omega.{arith}
-use lib.ListN.{length, getD}
+use lib.ListN.{getD}
+use borrow.Author.Tests.{not-true, not-false}
 use borrow.Author.Needs.{needs}
 use Rattle.lists.specs.Below.{countFrom}
 use Rattle.lists.proofs.Ranges.{count-le}
-use Rattle.txset.specs.Sets.{hasIn, size}
-use Rattle.txset.proofs.Walk.{size-empty}
-use Rattle.slotsets.specs.SlotSets.{capacity, setWords}
+use Rattle.txset.specs.Sets.{hasIn, isEmpty, size}
+use Rattle.txset.proofs.Walk.{walk-less}
+use Rattle.slotsets.specs.SlotSets.{setWords}
+use Rattle.pool_links.proofs.Gaps.{Ahead, gap-count, ahead-start, ahead-end, ahead-up, ahead-below, ahead-gap, ahead-next}
 use Rattle.pool_links.proofs.Walking.{count-word}
 use Rattle.pool_links.proofs.count.Statement.{statement}
 use Rattle.pool_links.proofs.count.Tie as tie
 
+-- the members of the words before x were counted, and `rest` are the filled ones from there on
 abbrev Inv-loop : tie.InvT-loop
-Inv-loop set members₀ next₀ members next = (next ≤ setWords) × (members ≡ countFrom (hasIn set) (64 * next) 0)
+Inv-loop set members₀ rest₀ members rest = (x : ℕ) × Ahead set x rest × (members ≡ countFrom (hasIn set) (64 * x) 0)
 
 abbrev μ-loop : tie.MeasureT-loop
-μ-loop set members₀ next₀ members next = setWords - next
+μ-loop set members₀ rest₀ members rest = size rest
 
 loop-holds : tie.Need-loop-holds Inv-loop μ-loop
 unfolding countFrom
-loop-holds c = (search needs, refl)
+loop-holds c = (0, ahead-start (c .before .before .pre) (c .filled .ensures), refl)
 
-abbrev loopOf : tie.After-is-empty Inv-loop μ-loop → tie.At-loop Inv-loop μ-loop
-loopOf c = c .before .before .before
+abbrev head-of : tie.After-lowest Inv-loop μ-loop → tie.At-loop Inv-loop μ-loop
+head-of c = c .before .before .before
 
-abbrev set : tie.After-is-empty Inv-loop μ-loop → List ℕ
-set c = loopOf c .before .before .args .set .now
+abbrev set-of : tie.After-lowest Inv-loop μ-loop → List ℕ
+set-of c = head-of c .before .before .before .args .set .now
+
+left : (c : tie.After-lowest Inv-loop μ-loop) → isEmpty (head-of c .loop .rest) ≡ false
+left c = sym (c .before .before .is-empty .ensures) ∙ not-true _ (c .before .if1 .taken)
+
+below : (c : tie.After-lowest Inv-loop μ-loop) → c .lowest .result < setWords
+below c = ahead-below (head-of c .loop .inv .1) (left c) (c .lowest .ensures)
 
 -- with one word more
-together : (c : tie.After-is-empty Inv-loop μ-loop)
-    → loopOf c .loop .members + size (record { word = getD (set c) (loopOf c .loop .next) 0 })
-    ≡ countFrom (hasIn (set c)) (64 * (loopOf c .loop .next + 1)) 0
+together : (c : tie.After-lowest Inv-loop μ-loop)
+    → head-of c .loop .members + size (record { word = getD (set-of c) (c .lowest .result) 0 })
+    ≡ countFrom (hasIn (set-of c)) (64 * (c .lowest .result + 1)) 0
 together c =
-    let l = loopOf c .loop in
-    ap (λ (n : ℕ). n + size (record { word = getD (set c) (l .next) 0 })) (l .inv .1) ∙ count-word (set c) (l .next) (getD (set c) (l .next) 0) refl
-
-loop-again : tie.Need-loop-again Inv-loop μ-loop
-loop-again c =
-    let empty = c .before in
-    let none = size-empty _ (sym (empty .is-empty .ensures) ∙ c .if1 .taken) in
-    (search needs, omega (arith, together empty, none))
+    let l = head-of c .loop in
+    let j = c .lowest .result in
+    let a = l .inv .1 in
+    ap (λ (n : ℕ). n + size (record { word = getD (set-of c) j 0 }))
+    (l .inv .2 ∙ gap-count (set-of c) (l .inv .0) j (ahead-up a (left c) (c .lowest .ensures)) (ahead-gap a (left c) (c .lowest .ensures)))
+    ∙ count-word (set-of c) j (getD (set-of c) j 0) refl
 
 add-members : tie.Need-add-members Inv-loop μ-loop
 add-members c =
-    let empty = c .before .before in
-    let l = loopOf empty .loop in
-    omega (arith, together empty, c .count .ensures, count-le (hasIn (set empty)) (64 * (l .next + 1)) 0)
+    let low = c .before .before .before in
+    omega (arith, together low, c .count .ensures, below low, count-le (hasIn (set-of low)) (64 * (low .lowest .result + 1)) 0)
 
-loop-again-2 : tie.Need-loop-again-2 Inv-loop μ-loop
-loop-again-2 c =
-    let empty = c .before .before in
-    (search needs, ap (λ (n : ℕ). loopOf empty .loop .members + n) (c .count .ensures) ∙ together empty)
+loop-less : tie.Need-loop-less Inv-loop μ-loop
+loop-less c =
+    let low = c .before .before .before in
+    walk-less (head-of low .loop .rest) (c .before .before .without-lowest .result) (c .before .before .without-lowest .ensures) (left low)
+
+loop-again : tie.Need-loop-again Inv-loop μ-loop
+loop-again c =
+    let low = c .before .before .before in
+    let l = head-of low .loop in (
+      low .lowest .result + 1,
+      ahead-next (l .inv .1) (left low) (low .lowest .ensures) (c .before .before .without-lowest .ensures),
+      ap (λ (n : ℕ). l .members + n) (c .count .ensures) ∙ together low,
+    )
 
 returns : tie.Need-returns Inv-loop μ-loop
 returns c =
-    let l = c .before .loop in
-    let z : 64 * l .next ≡ capacity = omega arith in
-    l .inv .1 ∙ ap (λ (n : ℕ). countFrom (hasIn (c .before .before .before .args .set .now)) n 0) z
+    let head = c .before .before in
+    let l = head .loop in
+    let a = l .inv .1 in
+    l .inv .2
+    ∙ gap-count (head .before .before .before .args .set .now) (l .inv .0) setWords (a .within)
+    (ahead-end a (sym (c .before .is-empty .ensures) ∙ not-false _ (c .if1 .left)))
 
 pub count-spec : {M : Type 1} → statement M
 count-spec =
@@ -66,15 +85,15 @@ count-spec =
     (tie.spec
     Inv-loop
     μ-loop
-    loop-holds
-    (λ c. search needs)
-    (λ c. omega (arith, c .before .before .before .before .pre))
-    (λ c. search needs)
     (λ c κs. search needs)
-    (λ c. search needs)
-    loop-again
+    loop-holds
+    (λ c κs. search needs)
+    (λ c κs. search needs)
+    (λ c κs. search needs)
+    (λ c. omega (arith, below (c .before)))
+    (λ c. omega (arith, below (c .before .before), head-of (c .before .before) .before .before .before .pre))
     (λ c κs. search needs)
     add-members
-    (λ c. search needs)
-    loop-again-2
+    loop-less
+    loop-again
     returns)

@@ -1,96 +1,124 @@
-use mathlib.Core.Path.{_≡_, refl, sym, ap, _∙_, subst}
-use mathlib.Core.Bool.{true, false}
+use mathlib.Core.Path.{_≡_, refl, sym, ap, _∙_}
+use mathlib.Core.Bool.{false}
 use mathlib.Core.List.{List}
-use Prim.Native.Nat.{ℕ, _+_, _-_, _*_, _≤_, _<_}
+use Prim.Native.Nat.{ℕ, _+_, _*_, _<_}
 use native.Mathlib.Omega.{arith}
-use lib.ListN.{length, getD, set}
+use lib.ListN.{length, getD}
 use borrow.Author.Tests.{not-true, not-false}
 use borrow.Author.Needs.{needs}
 use Rattle.lists.proofs.Bools.{clash}
-use Rattle.slotsets.specs.SlotSets.{capacity, setWords}
+use Rattle.txset.specs.Sets.{isEmpty, size}
+use Rattle.txset.proofs.Walk.{walk-less}
+use Rattle.slotsets.specs.SlotSets.{setWords}
 use Rattle.pool_table.specs.declared.Side.the-variants.{Children}
-use Rattle.pool_table.specs.Pool.{Pool, slotAt, slotCount}
+use Rattle.pool_table.specs.Pool.{Pool, slotAt}
 use Rattle.pool_table.specs.Words.{poolOf}
 use Rattle.pool_table.proofs.Rows.{whole-slot}
 use Rattle.pool_links.specs.Steps.{childrenTo, Walking}
-use Rattle.pool_links.proofs.Walking.{there, links-own, walking-ext, start-same, done-same, release-start, release-done}
+use Rattle.pool_links.proofs.Gaps.{Ahead, ahead-start, ahead-end, ahead-up, ahead-below, ahead-gap, ahead-next}
+use Rattle.pool_links.proofs.Walking.{there, links-own, walking-gap, release-start, release-done}
 use Rattle.pool_links.proofs.release.Statement.{statement}
 use Rattle.pool_links.proofs.release.Tie as tie
 
+-- the children in the words before x were met, and `rest` are the filled words from there on
 abbrev Inv-loop : tie.InvT-loop
-Inv-loop table at needs₀ queue₀ end a words to₀ next₀ needs queue to next =
-    (next ≤ setWords) × Walking (poolOf table) at a (childrenTo (poolOf table) a (64 * next)) needs queue to
+Inv-loop table at needs₀ queue₀ end a words to₀ rest₀ needs queue to rest =
+    (x : ℕ) × Ahead words x rest × Walking (poolOf table) at a (childrenTo (poolOf table) a (64 * x)) needs queue to
 
 abbrev μ-loop : tie.MeasureT-loop
-μ-loop table at needs₀ queue₀ end a words to₀ next₀ needs queue to next = setWords - next
+μ-loop table at needs₀ queue₀ end a words to₀ rest₀ needs queue to rest = size rest
 
-abbrev start-of : tie.At-loop Inv-loop μ-loop → tie.Start Inv-loop μ-loop
-start-of c = c .before .before .before .before .before .before .before
+abbrev start-of : tie.After-links Inv-loop μ-loop → tie.Start Inv-loop μ-loop
+start-of c = c .before .before .before .before .before .before
 
-abbrev pool-of : tie.At-loop Inv-loop μ-loop → Pool
+abbrev pool-of : tie.After-links Inv-loop μ-loop → Pool
 pool-of c = poolOf (start-of c .args .table .now)
 
 -- the slot whose children are walked to
-abbrev own : tie.At-loop Inv-loop μ-loop → ℕ
-own c = c .before .before .wide .result
+abbrev own : tie.After-links Inv-loop μ-loop → ℕ
+own c = c .before .wide .result
+
+begun : (c : tie.After-links Inv-loop μ-loop) → let s = start-of c .args in
+    Walking (pool-of c) (s .at) (own c) (childrenTo (pool-of c) (own c) (64 * 0)) (s .needs .now) (s .queue .now) (s .end)
+begun c =
+    let start = start-of c in
+    release-start (start .args .table .now) (own c) (sym (c .before .wide .ensures)) (start .pre .1) (start .pre .0)
+
+children : (c : tie.After-links Inv-loop μ-loop) → c .links .result .now ≡ slotAt (pool-of c) (own c) .children
+children c = c .links .ensures ∙ links-own (pool-of c) Children (own c) (begun c .walk .below (own c) (there (begun c)))
+
+whole : (c : tie.After-links Inv-loop μ-loop) → length (c .links .result .now) ≡ setWords
+whole c = ap length (children c) ∙ whole-slot (start-of c .args .table .now) (own c) .children
 
 loop-holds : tie.Need-loop-holds Inv-loop μ-loop
-loop-holds c =
-    let start = c .before .before .before .before .before .before in
-    (search needs, release-start (start .args .table .now) (c .before .wide .result) (sym (c .before .wide .ensures)) (start .pre .1) (start .pre .0))
+loop-holds c = (0, ahead-start (whole (c .before)) (c .filled .ensures), begun (c .before))
 
-children : (c : tie.At-loop Inv-loop μ-loop) → c .before .links .result .now ≡ slotAt (pool-of c) (own c) .children
-children c =
-    let w = c .loop .inv .1 in
-    c .before .links .ensures ∙ links-own (pool-of c) Children (own c) (w .walk .below (own c) (there w))
+-- ---- a word that has children
 
-word-at : (c : tie.At-loop Inv-loop μ-loop) → getD (c .before .links .result .now) (c .loop .next) 0 ≡ getD (slotAt (pool-of c) (own c) .children) (c .loop .next) 0
-word-at c = ap (λ (ws : List ℕ). getD ws (c .loop .next) 0) (children c)
+abbrev head-of : tie.After-lowest Inv-loop μ-loop → tie.At-loop Inv-loop μ-loop
+head-of c = c .before .before .before
 
-shared-slice-read-t20 : tie.Need-shared-slice-read-t20 Inv-loop μ-loop
-shared-slice-read-t20 c =
-    let head = c .before .before in
-    omega (arith, c .before .loop-test .taken, ap length (children head) ∙ whole-slot (start-of head .args .table .now) (own head) .children)
+abbrev links-of : tie.At-loop Inv-loop μ-loop → tie.After-links Inv-loop μ-loop
+links-of c = c .before .before
 
--- a word that names no child
-loop-again : tie.Need-loop-again Inv-loop μ-loop
-loop-again c =
-    let head = c .before .before .before .before in
-    let w = getD (head .before .links .result .now) (head .loop .next) 0 in (
-      search needs,
-      walking-ext
-          (λ i.
-          start-same (pool-of head) (own head) (head .loop .next) w (word-at head) i
-          ∙ done-same (pool-of head) (own head) (head .loop .next) (record { word = w }) (sym (c .before .is-empty .ensures) ∙ c .if1 .taken) i)
-          (head .loop .inv .1),
-    )
+left : (c : tie.After-lowest Inv-loop μ-loop) → isEmpty (head-of c .loop .rest) ≡ false
+left c = sym (c .before .before .is-empty .ensures) ∙ not-true _ (c .before .if1 .taken)
+
+below : (c : tie.After-lowest Inv-loop μ-loop) → c .lowest .result < setWords
+below c = ahead-below (head-of c .loop .inv .1) (left c) (c .lowest .ensures)
 
 release-word-requires : tie.Need-release-word-requires Inv-loop μ-loop
 release-word-requires c κs =
-    let turn = c .before .before .before .before .before in
-    ((turn .loop-test .taken, word-at (turn .before)), turn .before .loop .inv .1)
+    let low = c .before .before .before .before in
+    let j = low .lowest .result in
+    let l = head-of low .loop in
+    let same = children (links-of (head-of low)) in (
+      (below low, ap (λ (ws : List ℕ). getD ws j 0) same),
+      walking-gap same (ahead-up (l .inv .1) (left low) (low .lowest .ensures)) (ahead-gap (l .inv .1) (left low) (low .lowest .ensures)) (l .inv .2),
+    )
+
+abbrev word-of : tie.Else2 Inv-loop μ-loop → tie.After-release-word Inv-loop μ-loop
+word-of c = c .before .before .before .before .before .before
+
+abbrev next-of : tie.Else2 Inv-loop μ-loop → tie.After-without-lowest Inv-loop μ-loop
+next-of c = word-of c .before .before .before .before
 
 returns : tie.Need-returns Inv-loop μ-loop
 returns c =
     let k = c .before .before .before .before .before .before in
     (λ h. clash h (not-true (k .release-word .result .holds) (c .if2 .taken)), k .release-word .ensures .1)
 
-loop-again-2 : tie.Need-loop-again-2 Inv-loop μ-loop
-loop-again-2 c =
-    let k = c .before .before .before .before .before .before in
-    (search needs, k .release-word .ensures .0 (not-false (k .release-word .result .holds) (c .if2 .left)))
+loop-less : tie.Need-loop-less Inv-loop μ-loop
+loop-less c =
+    let next = next-of c in
+    walk-less (head-of (next .before) .loop .rest) (next .without-lowest .result) (next .without-lowest .ensures) (left (next .before))
 
-wide-same : (c : tie.At-loop Inv-loop μ-loop) → length (c .loop .needs) ≡ length (start-of c .args .needs .now)
-wide-same c = c .loop .inv .1 .walk .wide ∙ sym (start-of c .pre .0 .wide)
+loop-again : tie.Need-loop-again Inv-loop μ-loop
+loop-again c =
+    let next = next-of c in
+    let low = next .before in
+    let k = word-of c in (
+      low .lowest .result + 1,
+      ahead-next (head-of low .loop .inv .1) (left low) (low .lowest .ensures) (next .without-lowest .ensures),
+      k .release-word .ensures .0 (not-false (k .release-word .result .holds) (c .if2 .left)),
+    )
 
-long-same : (c : tie.At-loop Inv-loop μ-loop) → length (c .loop .queue) ≡ length (start-of c .args .queue .now)
-long-same c = c .loop .inv .1 .walk .long ∙ sym (start-of c .pre .0 .long)
+-- ---- no word is left
 
 returns-2 : tie.Need-returns-2 Inv-loop μ-loop
 returns-2 c =
-    let head = c .before in
-    let w = head .loop .inv .1 in
-    (λ h. (release-done (start-of head .args .table .now) (c .loop-test .left) w, w .here), λ h. clash refl h)
+    let head = c .before .before in
+    let a = head .loop .inv .1 in
+    let w = head .loop .inv .2 in
+    let gap = ahead-end a (sym (c .before .is-empty .ensures) ∙ not-false _ (c .if1 .left)) in
+    let all = walking-gap (children (links-of head)) (a .within) gap w in
+    (λ h. (release-done (start-of (links-of head) .args .table .now) all, w .here), λ h. clash refl h)
+
+wide-same : (c : tie.At-loop Inv-loop μ-loop) → length (c .loop .needs) ≡ length (start-of (links-of c) .args .needs .now)
+wide-same c = c .loop .inv .2 .walk .wide ∙ sym (start-of (links-of c) .pre .0 .wide)
+
+long-same : (c : tie.At-loop Inv-loop μ-loop) → length (c .loop .queue) ≡ length (start-of (links-of c) .args .queue .now)
+long-same c = c .loop .inv .2 .walk .long ∙ sym (start-of (links-of c) .pre .0 .long)
 
 pub release-spec : {M : Type 1} → statement M
 release-spec =
@@ -99,22 +127,22 @@ release-spec =
     Inv-loop
     μ-loop
     (λ c. omega (arith, c .before .before .before .pre .1, c .before .before .before .pre .0 .short))
-    (λ c. omega (arith, c .before .before .before .before .pre .1, c .before .before .before .before .pre .0 .short, c .before .before .before .before .pre .0 .long))
+    (λ c. let pre = c .before .before .before .before .pre in omega (arith, pre .1, pre .0 .short, pre .0 .long))
     (λ c κs. search needs)
     (λ c κs. search needs)
+    (λ c κs. whole c)
     loop-holds
-    (λ c. search needs)
-    (λ c. search needs)
-    shared-slice-read-t20
     (λ c κs. search needs)
-    (λ c. search needs)
-    loop-again
+    (λ c κs. search needs)
+    (λ c κs. search needs)
+    (λ c. omega (arith, below (c .before)))
+    (λ c. omega (arith, below (c .before .before), whole (links-of (head-of (c .before .before)))))
     release-word-requires
     (λ c. search needs)
     (λ c. search needs)
     returns
-    (λ c. search needs)
-    loop-again-2
-    (λ c. wide-same (c .before))
-    (λ c. long-same (c .before))
+    loop-less
+    loop-again
+    (λ c. wide-same (c .before .before))
+    (λ c. long-same (c .before .before))
     returns-2)
