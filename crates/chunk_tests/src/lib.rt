@@ -1,5 +1,8 @@
 // What a template asks of a chunk's numbers (document 01, "How a template is filled"): which of two pays better, and the tests against the
 // minimum, the budget and the sigop limit. Nothing is rounded and nothing wraps, whatever the numbers.
+
+#![tactic(auto)]
+
 ghost use Rattle.std.specs.Prelude.{◌≡◌};
 ghost use Rattle.feefrac.specs.Rate.{is_greater};
 ghost use Rattle.chunk_tests.specs.Tests.{pays_order, is_negative, is_below, over_budget, over_sigops};

@@ -2,6 +2,9 @@
 // a paying child lifts its cheap parent into the block with it. At equal rates nothing is joined. Both parts are worth the same alone, and
 // small pieces fill the tail of a block where a large one does not fit. A member is pushed once and swallowed at most once, so the
 // compares are fewer than twice the members.
+
+#![tactic(auto)]
+
 ghost use Rattle.std.specs.Prelude.{◌≡◌, ◌++◌, ◌≤◌, ◌<◌, length, drop};
 ghost use Rattle.txset.specs.Sets.{positions};
 ghost use Rattle.chunking.specs.Chunks.{rates, chunk_lengths, reply, room_after};
@@ -16,7 +19,7 @@ use txset::POSITIONS;
 const FEW: usize = 8;
 
 // A run of members, by their feerate sum and their number.
-#[derive(Drop)]
+#[derive(Clone, Copy)]
 pub struct Chunk {
     pub rate: FeeFrac,
     pub len: usize,

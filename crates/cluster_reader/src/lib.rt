@@ -1,5 +1,8 @@
 // What the cluster program reads: n, and then three lines for each member. The form is strict, so that a number has one spelling and a
 // text that was cut off is never taken for a smaller cluster. Each byte is looked at a few times.
+
+#![tactic(auto)]
+
 ghost use Rattle.std.specs.Prelude.{◌≡◌, [], ◌++◌, ◌≤◌, length, take, drop};
 ghost use Rattle.txset.specs.Sets.{positions};
 ghost use Rattle.cluster_reader.specs.Reading.{read, members, told, read_told, first_told};
@@ -13,21 +16,21 @@ use texts::{Number, Signed, place, read_number, read_signed};
 use txset::{POSITIONS, SET_WORDS, TxSet};
 
 // How many members were read, or which refusal it is: `told` of specs/Reading.antt has its number.
-#[derive(Drop)]
+#[derive(Clone, Copy)]
 pub enum Input {
     Members(usize),
     TooMany,
     Malformed,
 }
 
-#[derive(Drop)]
+#[derive(Clone, Copy)]
 pub enum Member {
     Read(MemberLines),
     Malformed,
 }
 
 // A member's three lines, and where the next line starts.
-#[derive(Drop)]
+#[derive(Clone, Copy)]
 pub struct MemberLines {
     pub fee: i64,
     pub size: u64,
@@ -35,7 +38,7 @@ pub struct MemberLines {
     pub next: usize,
 }
 
-#[derive(Drop)]
+#[derive(Clone, Copy)]
 pub enum Parents {
     Set(TxSet),
     Malformed,

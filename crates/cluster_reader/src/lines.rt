@@ -6,20 +6,20 @@ ghost use Rattle.cluster_reader.specs.Steps.{line_at, field_at, has_end};
 use texts::place;
 
 // Where a line's newline stands, or that the line is not of its form.
-#[derive(Drop)]
+#[derive(Clone, Copy)]
 pub enum Line {
     Ends(usize),
     Malformed,
 }
 
 // Where the value behind a line's key starts and ends, or that the line is not of its form.
-#[derive(Drop)]
+#[derive(Clone, Copy)]
 pub enum Value {
     Between(Span),
     Malformed,
 }
 
-#[derive(Drop)]
+#[derive(Clone, Copy)]
 pub struct Span {
     pub start: usize,
     pub end: usize,

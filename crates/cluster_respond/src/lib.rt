@@ -1,4 +1,7 @@
 // The cluster program of document 01 as a function from the bytes of its input to the bytes that it prints.
+
+#![tactic(auto)]
+
 ghost use Rattle.std.specs.Prelude.{◌≡◌, ◌≤◌, length};
 ghost use Rattle.txset.specs.Sets.{positions};
 ghost use Rattle.lists.specs.Lists.{overwrite};

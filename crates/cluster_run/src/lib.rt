@@ -1,4 +1,7 @@
 // The cluster program of document 01: reads a cluster from standard input and prints its order and chunks.
+
+#![tactic(auto)]
+
 ghost use Rattle.std.specs.Prelude.{◌≡◌, ◌<◌, length};
 ghost use Rattle.cluster_reader.specs.Lines.{longest_text};
 ghost use Rattle.cluster_run.specs.Stops.{Stopped, text_read};
@@ -9,7 +12,7 @@ use libc::STDOUT_FILENO;
 use reads::{End, Failure, Got};
 
 // Why no more is read, and how many bytes were.
-#[derive(Drop)]
+#[derive(Clone, Copy)]
 enum Stop {
     Ended(End),
     Full(usize),
@@ -18,7 +21,7 @@ enum Stop {
 }
 
 // How many bytes the answer goes by, or that the input is not known.
-#[derive(Drop)]
+#[derive(Clone, Copy)]
 enum Text {
     Bytes(usize),
     Unknown,

@@ -7,18 +7,18 @@ ghost use Rattle.cluster_run.specs.Stops.{Gave};
 use libc::STDIN_FILENO;
 
 // A read behind so many bytes gave none: the input has ended there.
-#[derive(Drop)]
+#[derive(Clone, Copy)]
 pub struct End {
     at: usize,
 }
 
 // A read behind so many bytes failed.
-#[derive(Drop)]
+#[derive(Clone, Copy)]
 pub struct Failure {
     at: usize,
 }
 
-#[derive(Drop)]
+#[derive(Clone, Copy)]
 pub enum Got {
     Bytes(usize),
     Ended(End),

@@ -1,5 +1,8 @@
 // What the cluster program prints, written to the start of a room; what stands behind it there stays. The rates are for people to read:
 // this is the one place where a rate is rounded, and no order depends on it.
+
+#![tactic(auto)]
+
 ghost use Rattle.std.specs.Prelude.{◌≡◌, ◌+◌, ◌≤◌, min, length};
 ghost use Rattle.lists.specs.Lists.{overwrite};
 ghost use Rattle.texts.specs.Writing.{signed, commas, text_line};

@@ -1,6 +1,9 @@
 // Module 3 of document 01: the closure of a cluster's parent links. A transaction can be mined only after all its ancestors, and one that
 // pays well pays for them too, so every rule above asks who is above whom. The closure is worked out once, in n rounds of at most n set
 // operations; each question is one operation then.
+
+#![tactic(auto)]
+
 ghost use Rattle.std.specs.Prelude.{ℕ, ◌≤◌, length, take, ◌≡◌, Bool, true, false, ◌&&◌};
 ghost use Rattle.ways.specs.Ways.{reach};
 ghost use Rattle.txset.specs.Sets.{mem, set_at, Joined};
@@ -12,7 +15,7 @@ use txset::{POSITIONS, TxSet};
 
 // A graph whose two tables are lent: a set of ancestors and one of descendants for each position, each with the position itself.
 // `cyclic` says whether some member is above itself.
-#[derive(Drop)]
+#[derive(Clone, Copy)]
 pub struct DepGraph {
     pub cyclic: bool,
 }

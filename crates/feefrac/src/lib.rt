@@ -3,20 +3,23 @@
 // better one wins, and equal ones are known to be equal. A compare takes two multiplications, and more only for numbers that no ordinary
 // cluster has.
 // Callers see `FeeFrac`, `Ordering` and the methods; how two products are compared is in `compare`.
+
+#![tactic(auto)]
+
 ghost use Rattle.std.specs.Prelude.{◌≡◌, set};
 ghost use Rattle.feefrac.specs.Rate.{zero_rate, rate_at, sum, difference, negated, higher, rate_order, rank_order, is_greater, size_order, then_by};
 
 mod compare;
 mod held;
 
-#[derive(Drop)]
+#[derive(Clone, Copy)]
 pub struct FeeFrac {
     pub fee: i64,
     pub size: u64,
 }
 
 // How the first of two stands to the second.
-#[derive(Drop)]
+#[derive(Clone, Copy)]
 pub enum Ordering {
     Less,
     Equal,

@@ -1,5 +1,8 @@
 // The feerate of a set of members, and of a list: what a miner is paid, and for how much size, if all of them are taken. One addition a
 // member.
+
+#![tactic(auto)]
+
 ghost use Rattle.std.specs.Prelude.{◌≡◌};
 ghost use Rattle.txset.specs.Sets.{members};
 ghost use Rattle.feeset.specs.Total.{total};

@@ -1,6 +1,9 @@
 // Modules 6, 5 and 7 of document 01 as a call: linearize. It checks its own input and leaves the room as it was where it refuses. What
 // pays best for its size comes first, with all that it needs. Most clusters of a pool are one transaction, which costs the checks alone;
 // 64 members take some hundreds to some thousands of compares (docs/SPEED.md).
+
+#![tactic(auto)]
+
 ghost use Rattle.std.specs.Prelude.{◌≤◌, ◌≡◌, ◌++◌, length, drop};
 ghost use Rattle.lists.specs.Lists.{overwrite};
 ghost use Rattle.txset.specs.Sets.{mem_at};

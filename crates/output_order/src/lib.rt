@@ -2,6 +2,9 @@
 // the smaller comes first, so what may not fit a block's tail comes last; and where rank leaves a tie positions decide, so that one
 // cluster has one order. Each round scans the chunks that are left as far as none behind can be higher, which is one chunk where all rates
 // differ; each member of a chunk costs a scan of those left in it.
+
+#![tactic(auto)]
+
 ghost use Rattle.std.specs.Prelude.{◌≡◌, true, false, List, ℕ, ◌≤◌, ◌<◌, max, length};
 ghost use Rattle.feefrac.specs.Rate.{rate_at};
 ghost use Rattle.txset.specs.Sets.{positions, mem, is_empty, mem_at};
@@ -15,14 +18,14 @@ use feeset::set_feerate;
 use txset::{POSITIONS, SET_WORDS, TxSet};
 
 // The best of some candidates, or that there is none.
-#[derive(Drop)]
+#[derive(Clone, Copy)]
 enum Choice {
     Of(usize),
     Nothing,
 }
 
 // What is out: the members as a set, and their number.
-#[derive(Drop)]
+#[derive(Clone, Copy)]
 struct Out {
     done: TxSet,
     len: usize,
@@ -30,7 +33,7 @@ struct Out {
 
 // Rates that fall: the last of them, and which are below all before them. A last one of size 0 says that they do not fall; there is no more
 // then.
-#[derive(Drop)]
+#[derive(Clone, Copy)]
 struct Fall {
     last: FeeFrac,
     drops: TxSet,
@@ -38,7 +41,7 @@ struct Fall {
 
 // A chunk on its way through the cut: its feerate sum, its members, the ancestors that these have outside it, its highest position, and
 // its place in the list of chunks.
-#[derive(Drop)]
+#[derive(Clone, Copy)]
 struct Piece {
     rate: FeeFrac,
     set: TxSet,

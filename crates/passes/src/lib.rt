@@ -2,6 +2,9 @@
 // pays more than the one before it should be mined sooner: it steps in front of it, or, where it depends on it, the two go on as one and
 // the cheap one is lifted. A pass over n members compares at most n(n - 1) / 2 times; members are moved only where a group merges or
 // comes to rest.
+
+#![tactic(auto)]
+
 ghost use Rattle.std.specs.Prelude.{◌≡◌};
 ghost use Rattle.txset.specs.Sets.{mem_at};
 ghost use Rattle.passes.specs.Pass.{forward_pass, back_pass, if_fits};

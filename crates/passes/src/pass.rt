@@ -16,7 +16,7 @@ use txset::{POSITIONS, TxSet};
 const FEW: usize = 8;
 
 // A run of the list: how many members, which they are, on what they depend, and their feerate sum.
-#[derive(Drop)]
+#[derive(Clone, Copy)]
 pub struct Group {
     len: usize,
     set: TxSet,
@@ -84,7 +84,7 @@ impl Group {
 // A group on its way forward. `below` groups stand under it, and their members end at `from`. Then come `ahead` members of groups that
 // it passed since it last merged, then its own, then those that it passed before. The summaries of the `over` groups that it passed wait
 // at the array's end.
-#[derive(Drop)]
+#[derive(Clone, Copy)]
 pub struct Way {
     below: usize,
     from: usize,

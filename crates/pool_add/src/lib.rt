@@ -1,5 +1,8 @@
 // Module 8 of document 01: add. The newcomer takes the lowest free slot and is linked with its parents in the pool, both ways; a
 // cluster that would pass a limit is refused before anything is written.
+
+#![tactic(auto)]
+
 ghost use Rattle.std.specs.Prelude.{◌≡◌, ◌+◌, ◌^◌, ◌<◌};
 ghost use Rattle.txset.specs.Sets.{has_in};
 ghost use Rattle.pool_table.specs.Pool.{slot_count};

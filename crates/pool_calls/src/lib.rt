@@ -2,6 +2,9 @@
 // first (12),
 // answers, and leaves in it just what the rules say, so that a miner's template never rests on a table that something else wrote into. A
 // refusal leaves it word for word as it was.
+
+#![tactic(auto)]
+
 ghost use Rattle.std.specs.Prelude.{◌≡◌};
 ghost use Rattle.txids.specs.Txids.{txid_at};
 ghost use Rattle.pool_table.specs.Words.{pool_of, table_of};

@@ -1,5 +1,8 @@
 // Refusal 12 of document 01: every call on a pool but make tests the whole table first, so that no call works on a table that something
 // else wrote into. Each part is a crate of its own; here they come together.
+
+#![tactic(auto)]
+
 ghost use Rattle.std.specs.Prelude.{◌≡◌, true, [], ◌∷◌, length};
 ghost use Rattle.pool_table.specs.Words.{pool_of};
 ghost use Rattle.pool_table.specs.WellFormed.{well_formed};

@@ -1,5 +1,8 @@
 // The chunks of all clusters of a pool, in the order in which a template tries them: each cluster is ordered by module 6 and cut by
 // module 4 of document 01, and the best paying chunk of the whole pool comes first.
+
+#![tactic(auto)]
+
 ghost use Rattle.std.specs.Prelude.{◌≡◌, [], ◌∷◌, length};
 ghost use Rattle.refusals.specs.Refusals.{answer_of};
 ghost use Rattle.pool_table.specs.Words.{pool_of};
@@ -11,7 +14,7 @@ mod deltas;
 mod sort;
 
 // The refusal that a table and its deltas get, or 0 and how many chunks there are.
-#[derive(Drop)]
+#[derive(Clone, Copy)]
 pub struct Chunks {
     pub answer: u64,
     pub count: usize,

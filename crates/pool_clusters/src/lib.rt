@@ -1,5 +1,8 @@
 // The clusters of a pool, by a flood fill that reads each slot's links once: the cluster of a slot, the clusters of some slots together, and
 // whether each cluster of a table of any content stays within the table's limits.
+
+#![tactic(auto)]
+
 ghost use Rattle.std.specs.Prelude.{◌≡◌, not, ◌&&◌, ◌||◌, ℕ, ◌+◌, ◌<◌, min, ltb, leb, length};
 ghost use Rattle.txset.specs.Sets.{has_in};
 ghost use Rattle.weights.specs.Weights.{most, virtual_size};
@@ -16,21 +19,21 @@ use slotsets::{CAPACITY, SET_WORDS, below, contains, insert, join, lowest, remov
 use weights::RawWeight;
 
 // Clusters together: how many members, each counted once, and their raw weights, the sum held at 2^64 - 1.
-#[derive(Drop)]
+#[derive(Clone, Copy)]
 pub struct Union {
     pub count: usize,
     pub weight: RawWeight,
 }
 
 // A cluster's members, and whether it is within the limits.
-#[derive(Drop)]
+#[derive(Clone, Copy)]
 pub struct Limited {
     pub found: [u64; 16],
     pub within: bool,
 }
 
 // What a search found: the whole, or some part, where it was stopped since there is more than its limit.
-#[derive(Drop)]
+#[derive(Clone, Copy)]
 struct Part {
     found: [u64; 16],
     union: Union,

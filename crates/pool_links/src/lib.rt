@@ -1,4 +1,7 @@
 // The links of a pool's table, whatever it holds: whether parents and children name each other, and whether no chain of parents closes.
+
+#![tactic(auto)]
+
 ghost use Rattle.std.specs.Prelude.{◌≡◌, true, false, not, ◌&&◌, List, ℕ, ◌+◌, ◌*◌, ◌<◌, ◌≤◌, eqb, length, get_or, take, replicate};
 ghost use Rattle.lists.specs.Below.{count_from};
 ghost use Rattle.txset.specs.Sets.{has_in, mem};
@@ -14,14 +17,14 @@ use slotsets::SET_WORDS;
 use txset::TxSet;
 
 // What the survey counted: the slots with links, and how many of them are queued, since they name no parent.
-#[derive(Drop)]
+#[derive(Clone, Copy)]
 struct Found {
     linked: usize,
     end: usize,
 }
 
 // How many are queued after a step, and whether the links that were walked are mutual.
-#[derive(Drop)]
+#[derive(Clone, Copy)]
 struct Step {
     end: usize,
     holds: bool,

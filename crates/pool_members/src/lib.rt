@@ -1,5 +1,8 @@
 // The clusters of a pool in the form that modules 4 to 7 of document 01 take: "A cluster's positions are its members by txid". The slots
 // are sorted by txid once; each cluster is then found by a flood fill and read off in that order, so that no txid is compared twice.
+
+#![tactic(auto)]
+
 ghost use Rattle.std.specs.Prelude.{◌≡◌, true, [], ◌∷◌, ◌<◌, length};
 ghost use Rattle.pool_table.specs.Pool.{slot_count};
 ghost use Rattle.pool_table.specs.Words.{pool_of};
@@ -16,7 +19,7 @@ mod rooms;
 use slotsets::contains;
 
 // Whether a table stands and the rooms are wide enough, and how many clusters are laid out.
-#[derive(Drop)]
+#[derive(Clone, Copy)]
 pub struct Layout {
     pub stands: bool,
     pub count: usize,

@@ -1,5 +1,8 @@
 // What the pool program reads: a line, and what it asks for. The form is strict, so that a line has one meaning and what is not of the
 // form touches nothing.
+
+#![tactic(auto)]
+
 ghost use Rattle.std.specs.Prelude.{◌≡◌, List, ℕ, ◌+◌, take};
 ghost use Rattle.pool_reader.specs.Requests.{request_of, by_plain_word, as_add, as_remove, as_set_cost, as_make, as_delta, as_mark, as_template};
 ghost use Rattle.pool_reader.specs.Calls.{asked};
@@ -17,7 +20,7 @@ use words::{Listed, Next, is_word, only_numbers, read_numbers, read_txid, read_t
 const LONGEST: usize = 8192;
 
 // What a line asks for. The txid and the bytes of the parents' txids are left in lent arrays: `asked` of specs/Calls.antt puts them together.
-#[derive(Drop)]
+#[derive(Clone, Copy)]
 pub enum Parsed {
     Add(Adding),
     Remove,
@@ -32,7 +35,7 @@ pub enum Parsed {
 }
 
 // An entry's numbers, and how many bytes of parents' txids there are.
-#[derive(Drop)]
+#[derive(Clone, Copy)]
 pub struct Adding {
     pub fee: u64,
     pub weight: u64,
@@ -40,20 +43,20 @@ pub struct Adding {
     pub listed: usize,
 }
 
-#[derive(Drop)]
+#[derive(Clone, Copy)]
 pub struct Making {
     pub slots: u64,
     pub limits: Limits,
 }
 
 // A slot's delta, and its mark.
-#[derive(Drop)]
+#[derive(Clone, Copy)]
 pub struct Delta {
     pub slot: u64,
     pub sats: i64,
 }
 
-#[derive(Drop)]
+#[derive(Clone, Copy)]
 pub struct Marking {
     pub slot: u64,
     pub mark: u64,

@@ -9,14 +9,14 @@ ghost use Rattle.pool_reader.specs.Steps.{words_at, Place, NumbersRead, TxidRead
 use texts::{Number, place, read_hex, read_number};
 
 // Where the word behind those that were read starts, or that they are not of their form.
-#[derive(Drop)]
+#[derive(Clone, Copy)]
 pub enum Next {
     At(usize),
     Malformed,
 }
 
 // How many bytes the txids have that were read, or that a word is none.
-#[derive(Drop)]
+#[derive(Clone, Copy)]
 pub enum Listed {
     Bytes(usize),
     Malformed,

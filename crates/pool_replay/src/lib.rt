@@ -4,6 +4,9 @@
 // A line has numbers with one space between them; the first says what is done: 0 make, 1 add, 2 remove, 3 set-cost, 4 clear, 5 totals,
 // 6 a word of the table is written by hand, 7 how many words are lent, 8 a slot's delta, 9 a slot's mark, 10 template, 11 all deltas and
 // marks are 0 again.
+
+#![tactic(auto)]
+
 ghost use Rattle.std.specs.Prelude.{◌≡◌, ◌+◌, ◌<◌, ◌≤◌, length};
 
 mod templates;
@@ -21,7 +24,7 @@ const PLACES: usize = 1_025;
 // The numbers of a line: as many as an add with ten parents has.
 const NUMBERS: usize = 16;
 
-#[derive(Drop)]
+#[derive(Clone, Copy)]
 struct Line {
     numbers: [u64; NUMBERS],
     count: usize,

@@ -1,6 +1,9 @@
 // Module 8 of document 01 as definitions (specs/Module8.antt, specs/Calls.antt), with the look-ups that its calls share: where a txid stands,
 // the lowest free slot, how many entries there are, and which slots a list of parents names. A look-up reads every slot at most once,
 // less than the test of refusal 12 before it; a list of parents takes a look-up for each.
+
+#![tactic(auto)]
+
 ghost use Rattle.std.specs.Prelude.{◌≡◌, cond, ◌||◌, length};
 ghost use Rattle.txset.specs.Sets.{has_in};
 ghost use Rattle.slotsets.specs.SlotSets.{set_words, set_of};
@@ -13,7 +16,7 @@ use txids::Txid;
 
 // What add, remove and set_cost answer: 0 and the entry's slot, or a refusal's number and 0.
 #[repr(C)]
-#[derive(Drop)]
+#[derive(Clone, Copy)]
 pub struct Placed {
     pub answer: u64,
     pub slot: usize,
@@ -21,7 +24,7 @@ pub struct Placed {
 
 // What totals answers: 0, the entries and the total raw weight, or a refusal's number and zeros.
 #[repr(C)]
-#[derive(Drop)]
+#[derive(Clone, Copy)]
 pub struct Totals {
     pub answer: u64,
     pub entries: usize,
@@ -29,7 +32,7 @@ pub struct Totals {
 }
 
 // Where a txid stands.
-#[derive(Drop)]
+#[derive(Clone, Copy)]
 pub enum Found {
     At(usize),
     Nothing,

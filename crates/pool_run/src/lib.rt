@@ -1,5 +1,8 @@
 // The pool program: a line in, its answer out, in fixed memory. What a line does and what answers it is pool_session's; here it is read and
 // written. An answer is written before more is read, so that the program can be talked with.
+
+#![tactic(auto)]
+
 ghost use Rattle.std.specs.Prelude.{◌≡◌, true, List, [], ◌∷◌, ◌++◌, ℕ, ◌≤◌, min, length, ℤ};
 ghost use Rattle.pool_session.specs.Program.{last_text};
 ghost use Rattle.pool_session.specs.Memory.{lent};
@@ -18,7 +21,7 @@ use writes::Printed;
 const KEPT: usize = 8193;
 
 // How many slots the pool has, how many bytes are kept of the line that is being read, and what was printed.
-#[derive(Drop)]
+#[derive(Clone, Copy)]
 pub struct State {
     slots: usize,
     len: usize,
@@ -26,7 +29,7 @@ pub struct State {
 }
 
 // Why nothing more is read and printed: the input has ended; a read failed; a write failed; or there were more reads than can be counted.
-#[derive(Drop)]
+#[derive(Clone, Copy)]
 pub enum Stop {
     Ended(End),
     Failed(Failure),
@@ -35,7 +38,7 @@ pub enum Stop {
 }
 
 // And where the program stands then.
-#[derive(Drop)]
+#[derive(Clone, Copy)]
 pub struct Last {
     stop: Stop,
     at: State,

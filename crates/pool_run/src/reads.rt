@@ -10,7 +10,7 @@ use crate::counts::held_sum;
 use libc::STDIN_FILENO;
 
 // So many reads gave bytes, so many together, and so many the last one.
-#[derive(Drop)]
+#[derive(Clone, Copy)]
 pub struct Input {
     reads: u64,
     bytes: u64,
@@ -18,18 +18,18 @@ pub struct Input {
 }
 
 // A read behind so many bytes gave none: the input has ended.
-#[derive(Drop)]
+#[derive(Clone, Copy)]
 pub struct End {
     bytes: u64,
 }
 
 // A read behind so many bytes failed.
-#[derive(Drop)]
+#[derive(Clone, Copy)]
 pub struct Failure {
     bytes: u64,
 }
 
-#[derive(Drop)]
+#[derive(Clone, Copy)]
 pub enum Got {
     Bytes(Input),
     Ended(End),

@@ -9,7 +9,7 @@ use crate::counts::held_sum;
 use libc::STDOUT_FILENO;
 
 // The number of the line that is answered next, how many bytes the answers so far have together, and whether all of them were written.
-#[derive(Drop)]
+#[derive(Clone, Copy)]
 pub struct Printed {
     number: u64,
     bytes: u64,

@@ -1,5 +1,8 @@
 // Refusal 12 of document 01, row by row: "a range", "the stored total as the sum of weights", "zeroed free slots". One walk over the table:
 // a stray word in memory that a host lent is found before any miner is paid by it.
+
+#![tactic(auto)]
+
 ghost use Rattle.std.specs.Prelude.{◌≡◌, ◌&&◌, length};
 ghost use Rattle.pool_table.specs.Words.{is_legal, pool_of};
 ghost use Rattle.pool_table.specs.WellFormed.{numbers_in_range, total_is_sum, free_zeroed};

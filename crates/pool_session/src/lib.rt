@@ -1,5 +1,8 @@
 // The pool program between two lines. A step reads one line, does what it asks for on the pool that stands at the start of lent arrays, and
 // writes the answer. A line that is of no form touches nothing, so that a slip of the keyboard does not cost the pool.
+
+#![tactic(auto)]
+
 ghost use Rattle.std.specs.Prelude.{◌≡◌, ℕ, ◌≤◌, min, length, take};
 ghost use Rattle.lists.specs.Lists.{overwrite};
 ghost use Rattle.slotsets.specs.SlotSets.{capacity};
@@ -23,7 +26,7 @@ const HEADER: usize = 4;
 const ROW: usize = 39;
 
 // How many slots the pool has then, and how many bytes the answer has.
-#[derive(Drop)]
+#[derive(Clone, Copy)]
 pub struct Done {
     pub slots: usize,
     pub len: usize,

@@ -1,6 +1,9 @@
 // Module 8 of document 01, the lent table: where its words stand, and one function for each thing that is read or written there. A pool
 // operator's whole state is this one block of memory: it is lent, copied or stored as it is. Nothing outside this crate knows an offset;
 // what the words mean is the record `Pool` of specs/, and everything above speaks of that record alone.
+
+#![tactic(auto)]
+
 ghost use Rattle.std.specs.Prelude.{◌≡◌, cond, ◌&&◌, ◌+◌, ◌<◌, ◌≤◌, length, get_or, replicate, eqb, ltb};
 ghost use Rattle.lists.specs.Lists.{all_of};
 ghost use Rattle.txset.specs.Sets.{has_in};
@@ -37,7 +40,7 @@ const CHILDREN: usize = 23;
 const LINKS: usize = 32;
 
 // What making a pool stores.
-#[derive(Drop)]
+#[derive(Clone, Copy)]
 pub struct Limits {
     pub count: u64,
     pub size: u64,
@@ -45,7 +48,7 @@ pub struct Limits {
 }
 
 // What an entry holds besides its links.
-#[derive(Drop)]
+#[derive(Clone, Copy)]
 pub struct Entry {
     pub txid: Txid,
     pub fee: u64,
@@ -54,7 +57,7 @@ pub struct Entry {
 }
 
 // The two sets of links of a slot.
-#[derive(Drop)]
+#[derive(Clone, Copy)]
 pub enum Side {
     Parents,
     Children,

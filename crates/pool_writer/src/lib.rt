@@ -1,4 +1,7 @@
 // What the pool program prints, written to the start of a room; what stands behind it there stays.
+
+#![tactic(auto)]
+
 ghost use Rattle.std.specs.Prelude.{◌≡◌, ◌≤◌, length, take};
 ghost use Rattle.lists.specs.Lists.{overwrite};
 ghost use Rattle.slotsets.specs.SlotSets.{capacity};

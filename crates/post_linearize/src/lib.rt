@@ -1,6 +1,9 @@
 // Module 5 of document 01 as a call: post_linearize. It checks its own input and leaves the order as it was where it refuses. It is for
 // orders that come from elsewhere: what pays more moves forward as far as its dependencies let it. Beside the two passes it costs the
 // closure of the links.
+
+#![tactic(auto)]
+
 ghost use Rattle.std.specs.Prelude.{◌≡◌, length};
 ghost use Rattle.depgraph.specs.Closed.{Room};
 ghost use Rattle.refusals.specs.Refusals.{refusal, success, reply_of, kept_unless};

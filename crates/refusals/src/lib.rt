@@ -1,5 +1,8 @@
 // What every call answers, and the checks of ranges and orders that the cluster calls share. A call tests its whole input before it
 // writes anything, so a caller that is refused still has what it lent. Each check is one walk over the input.
+
+#![tactic(auto)]
+
 ghost use Rattle.std.specs.Prelude.{◌≡◌, ◌&&◌, leb};
 ghost use Rattle.txset.specs.Sets.{positions};
 ghost use Rattle.refusals.specs.Refusals.{refusal, success, in_range, first_outside, is_order};
@@ -35,7 +38,7 @@ pub const INPUT_ILL_FORMED: u64 = 13;
 
 // 0 and the number of places written from the room's start, or the refusal's number and 0.
 #[repr(C)]
-#[derive(Drop)]
+#[derive(Clone, Copy)]
 pub struct Reply {
     pub answer: u64,
     pub written: usize,

@@ -1,6 +1,9 @@
 // The cases of document 01 that are run: the largest cluster, the ends of the fee range, and for each call every pair of neighbouring
 // refusals that are true at once, of which the earlier is given. A line for each: the answer, the places written, and whether the lent
 // memory behind them is as it was.
+
+#![tactic(auto)]
+
 ghost use Rattle.std.specs.Prelude.{◌≤◌};
 
 use libc::STDOUT_FILENO;
@@ -68,7 +71,7 @@ fn chunk_lengths_pairs() {
 
 // ---- what a case is made of
 
-#[derive(Drop)]
+#[derive(Clone, Copy)]
 enum Call {
     Linearize,
     PostLinearize,
@@ -77,7 +80,7 @@ enum Call {
 
 // Members of fee and size 1, of which the second has the first as its parent. The first's fee and its parents, and how much of each slice
 // is lent.
-#[derive(Drop)]
+#[derive(Clone, Copy)]
 struct Members {
     fee: i64,
     parents: u64,

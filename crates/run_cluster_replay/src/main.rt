@@ -1,6 +1,9 @@
 // A list of cases and what the original Rust answered to each: the input holds the cases, the output stored beside it the answers, so the
 // calls of document 01 are held against the Rust where no Rust is at hand. A case is a line `call=`, for post_linearize a line `order=`,
 // and a cluster in the form of the cluster program.
+
+#![tactic(auto)]
+
 ghost use Rattle.std.specs.Prelude.{true, ◌≡◌, ◌+◌, ◌≤◌, ◌<◌, min, length};
 
 use cluster_reader::Input;
@@ -8,7 +11,7 @@ use libc::{STDIN_FILENO, STDOUT_FILENO};
 use refusals::Reply;
 use txset::{POSITIONS, SET_WORDS};
 
-#[derive(Drop)]
+#[derive(Clone, Copy)]
 enum Call {
     Linearize,
     ChunkLengths,
@@ -17,14 +20,14 @@ enum Call {
 }
 
 // How many positions an order line has.
-#[derive(Drop)]
+#[derive(Clone, Copy)]
 enum Lent {
     Positions(usize),
     Malformed,
 }
 
 // A number, and the place behind its last digit.
-#[derive(Drop)]
+#[derive(Clone, Copy)]
 struct Number {
     value: usize,
     end: usize,

@@ -1,12 +1,15 @@
 // Many texts for the cluster program of document 01, one run of `cluster_respond::respond` for each. A line of the input is a text, in which
 // `/` stands for a newline and `%` with two hex digits for any byte. The line is printed with the response behind it, `/` for each newline.
+
+#![tactic(auto)]
+
 ghost use Rattle.std.specs.Prelude.{◌≡◌, ◌≤◌, ◌<◌, length};
 ghost use Rattle.run_cluster_texts.specs.Bounds.{Within};
 
 use libc::{STDIN_FILENO, STDOUT_FILENO};
 
 // How many bytes a line stands for, or that they are too many.
-#[derive(Drop)]
+#[derive(Clone, Copy)]
 enum Decoded {
     Bytes(usize),
     TooLong,

@@ -1,4 +1,7 @@
 // The leaves of `feefrac` at their limits, a line for each case.
+
+#![tactic(auto)]
+
 use feefrac::{FeeFrac, Ordering};
 use libc::STDOUT_FILENO;
 

@@ -1,4 +1,7 @@
 // The pool program, run on a long history: some thousand lines of all kinds, and what a second reading of document 01 answers to them.
+
+#![tactic(auto)]
+
 fn main() {
     pool_run::run();
 }

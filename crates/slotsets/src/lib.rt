@@ -1,5 +1,8 @@
 // Sets of a pool's slots as words in a slice, by membership. Every function is total: a slot past the last word is in no set, and adding
 // it changes nothing.
+
+#![tactic(auto)]
+
 ghost use Rattle.std.specs.Prelude.{◌≡◌, not, ◌&&◌, ◌||◌, ℕ, eqb, ltb, length};
 ghost use Rattle.txset.specs.Sets.{has_in};
 ghost use Rattle.slotsets.specs.SlotSets.{capacity, span, lowest_in};

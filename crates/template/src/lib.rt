@@ -1,6 +1,9 @@
 // Module 9 of document 01: the template, which is what a miner is paid by. The chunks of all clusters are tried, the best paying first, and
 // each goes out with the ancestors that it needs, or is passed over and leaves no trace. Later, smaller chunks still fill what is left. A
 // chunk costs a look at each of its slots, at the parents of what it brings, and a copy of the set of what is selected.
+
+#![tactic(auto)]
+
 ghost use Rattle.std.specs.Prelude.{◌≡◌, List, [], ◌∷◌, ◌≤◌, ◌<◌, length, ℤ};
 ghost use Rattle.lists.specs.Lists.{overwrite};
 ghost use Rattle.refusals.specs.Refusals.{answer_of};

@@ -19,7 +19,7 @@ use template_rules::{Reason, Terms};
 use weights::RawWeight;
 
 // Some slots in sums: how many, their raw weight, and their sigop cost, held at 2^64 - 1.
-#[derive(Drop)]
+#[derive(Clone, Copy)]
 pub struct Used {
     pub count: usize,
     pub weight: RawWeight,
@@ -27,14 +27,14 @@ pub struct Used {
 }
 
 // A chunk is taken, with what is selected then, or passed over.
-#[derive(Drop)]
+#[derive(Clone, Copy)]
 pub enum Outcome {
     Taken(Used),
     Passed(Reason),
 }
 
 // What a chunk is tried with: the block's terms, its feerate, and what is selected, in sums.
-#[derive(Drop)]
+#[derive(Clone, Copy)]
 pub struct Turn {
     pub terms: Terms,
     pub rate: FeeFrac,

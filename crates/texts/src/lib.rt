@@ -1,5 +1,8 @@
 // Text as programs read and write it: the place of a byte, decimals, txids in hex, and bytes written at a place of a room. What does not
 // fit behind the place is not written at all, so a writer asks nothing of its caller.
+
+#![tactic(auto)]
+
 ghost use Rattle.std.specs.Prelude.{◌≡◌, leb, ◌+◌};
 ghost use Rattle.texts.specs.Places.{place_of};
 ghost use Rattle.texts.specs.Rooms.{end_of, written_at};

@@ -7,13 +7,13 @@ ghost use Rattle.texts.specs.Rooms.{end_of, written_at, Room, Wrote, Writes};
 use crate::write_bytes;
 
 // A number of a text, or that it is not of its form.
-#[derive(Drop)]
+#[derive(Clone, Copy)]
 pub enum Number {
     Value(u64),
     Malformed,
 }
 
-#[derive(Drop)]
+#[derive(Clone, Copy)]
 pub enum Signed {
     Value(i64),
     Malformed,

@@ -1,8 +1,11 @@
 // A txid of module 8 (document 01): 32 bytes, held as four words so that two txids are compared word by word.
+
+#![tactic(auto)]
+
 ghost use Rattle.std.specs.Prelude.{◌≡◌, ◌+◌, ◌<◌};
 ghost use Rattle.txids.specs.Txids.{word_at, txid_at, before, same_txid};
 
-#[derive(Drop)]
+#[derive(Clone, Copy)]
 pub struct Txid {
     pub w0: u64,
     pub w1: u64,

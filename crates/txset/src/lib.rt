@@ -1,6 +1,9 @@
 // Module 2 of document 01: sets of cluster positions. Their meaning is membership, `mem` of specs/Sets.antt; that a
 // set is one word is known in this crate alone. A position that no set can hold is in none, and adding it changes nothing.
 // An operation on whole sets costs as much as one on a number, which is why ancestors are kept as sets.
+
+#![tactic(auto)]
+
 ghost use Rattle.std.specs.Prelude.{◌≡◌, Bool, true, false, not, ◌&&◌, ◌||◌, ℕ, eqb, ltb};
 ghost use Rattle.txset.specs.Sets.{mem, is_position, size, is_empty, is_subset, overlap, lowest_of, set_at, put_at, Joined};
 
@@ -10,7 +13,7 @@ pub const POSITIONS: usize = 64;
 // How many words an array has that holds a set for each position.
 pub const SET_WORDS: usize = POSITIONS;
 
-#[derive(Drop)]
+#[derive(Clone, Copy)]
 pub struct TxSet {
     pub word: u64,
 }

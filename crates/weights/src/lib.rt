@@ -1,12 +1,15 @@
 // The two measures of a transaction's weight (document 01), a type each, so that budget sums and ranking sizes are not mixed up, and the
 // virtual size of either.
+
+#![tactic(auto)]
+
 ghost use Rattle.std.specs.Prelude.{◌≡◌, ◌*◌, min};
 ghost use Rattle.weights.specs.Weights.{virtual_size, most, adjusted};
 
-#[derive(Drop)]
+#[derive(Clone, Copy)]
 pub struct RawWeight(pub u64);
 
-#[derive(Drop)]
+#[derive(Clone, Copy)]
 pub struct AdjustedWeight(pub u64);
 
 impl RawWeight {

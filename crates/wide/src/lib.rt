@@ -1,10 +1,13 @@
 // Products that do not fit one word: two are compared without rounding, and one is divided by a size again. So a feerate is never
 // rounded before it is compared, and a chunk that pays a little more is never taken for one that pays the same.
+
+#![tactic(auto)]
+
 ghost use Rattle.std.specs.Prelude.{◌≡◌, ◌+◌, ◌*◌, ◌/◌, ◌%◌, ◌<◌, min, ◌==◌, nat_lt};
 ghost use Rattle.wide.specs.Words.{value, Carry};
 
 // A number of 128 bits in two words.
-#[derive(Drop)]
+#[derive(Clone, Copy)]
 pub struct Wide {
     pub hi: u64,
     pub lo: u64,

@@ -8,7 +8,7 @@ use refusals::Reply;
 use weights::RawWeight;
 
 #[repr(C)]
-#[derive(Drop)]
+#[derive(Clone, Copy)]
 pub struct Terms {
     pub budget: u64,
     pub reserve: u64,

@@ -9,7 +9,7 @@ ghost use Rattle.yaghrudil.specs.Structs.{limits_of};
 use pool_rules::{Placed, Totals};
 
 #[repr(C)]
-#[derive(Drop)]
+#[derive(Clone, Copy)]
 pub struct Limits {
     pub count: u64,
     pub size: u64,
