@@ -1,0 +1,9 @@
+use borrow.Author.Rules.{rules}
+use mir.Syntax.{w64}
+use mir.ValLaws.{to_z-of_z}
+use Rattle.feefrac.specs.Rate.{rate_at}
+use Rattle.chunking.proofs.stacked.Goals as goal
+
+pub returns : goal.returns
+unfolding rate_at
+returns c = rw (to_z-of_z w64 _ (record { sfits = c.fee-1.given }))

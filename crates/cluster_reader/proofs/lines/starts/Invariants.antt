@@ -1,0 +1,15 @@
+use mathlib.Core.Path.{◌≡◌, refl, sym, ◌∙◌}
+use mathlib.Core.Bool.{false}
+use mathlib.Core.List.{List}
+use Prim.Native.Nat.{ℕ, ◌≤◌, ◌+◌, ◌-◌}
+use lib.ListN.{length, get_or, drop}
+use borrow.Author.Rules.{rules}
+use Rattle.cluster_reader.specs.Lines as spec
+use Rattle.cluster_reader.proofs.Places.{starts_none, starts_short, starts_other, starts_turn}
+use Rattle.cluster_reader.proofs.lines.starts.Given as goal
+
+abbrev pub invariant-loop-i : goal.invariant-loop-i
+invariant-loop-i l = (l.i ≤ length l.key) × (spec.starts l.key l.line ≡ spec.starts (drop l.i l.key) (drop l.i l.line))
+
+abbrev pub decreases-loop-i : goal.decreases-loop-i
+decreases-loop-i l = length l.key - l.i

@@ -1,0 +1,52 @@
+use Prim.Native.Nat.{◌+◌, ◌-◌, ◌≤◌, ◌<◌}
+use native.Mathlib.Omega.{arith}
+use mathlib.Core.Path.{◌≡◌, refl, sym, ◌∙◌}
+use mathlib.Core.List.{[]}
+use mathlib.Core.Bool.{false}
+use lib.ListN.{length, take}
+use lib.Seq.{length-take-le}
+use borrow.Author.Rules.{rules}
+use Rattle.texts.specs.Places.{before}
+use Rattle.cluster_reader.specs.Calls.{is_decided}
+use Rattle.cluster_run.proofs.Stops.{gave_bytes, gave_end, gave_failure}
+use Rattle.cluster_run.proofs.read_input.Goals as goal
+use Rattle.cluster_run.proofs.read_input.Goals.{In-Bytes}
+
+-- where nothing is read yet, nothing is certain
+nothing_decided : is_decided [] ≡ false
+unfolding is_decided before
+nothing_decided = refl
+
+-- the bytes that a read gave: at least one, and within the room
+behind : (c : In-Bytes)
+    → (0 < c.in-Bytes.n)
+    × (c.loop-len.len + c.in-Bytes.n
+    ≤ length c.read_more-got.new.0)
+behind c = gave_bytes _ _ c.read_more-got.ensures c.in-Bytes.is
+
+pub loop-len-init : goal.loop-len-init
+loop-len-init c = (omega arith, (refl, nothing_decided))
+
+pub returns-in-Ended : goal.returns-in-Ended
+returns-in-Ended c = let got = c.before in omega (arith, gave_end _ _ got.read_more-got.ensures got.in-Ended.is)
+
+pub returns-in-Failed : goal.returns-in-Failed
+returns-in-Failed c = let got = c.before in omega (arith, gave_failure _ _ got.read_more-got.ensures got.in-Failed.is)
+
+pub overflow_add-len : goal.overflow_add-len
+overflow_add-len c = let h = behind c in search rules
+
+pub slice_bounds-is_decided-end : goal.slice_bounds-is_decided-end
+slice_bounds-is_decided-end c = (behind c).1
+
+pub slice_bounds-is_decided-end-in-Bytes : goal.slice_bounds-is_decided-end-in-Bytes
+slice_bounds-is_decided-end-in-Bytes c = sym (length-take-le _ _ (behind c.before).1)
+
+pub returns-then-is_decided : goal.returns-then-is_decided
+returns-then-is_decided c = ((behind c.before.before.before).1, sym c.is_decided.ensures.value ∙ c.if-is_decided.true)
+
+pub loop-len-smaller : goal.loop-len-smaller
+loop-len-smaller c = let h = behind c.before.before.before in search rules
+
+pub loop-len-preserved : goal.loop-len-preserved
+loop-len-preserved c = let h = behind c.before.before.before in (h.1, (search rules, sym c.is_decided.ensures.value ∙ c.if-is_decided.false))

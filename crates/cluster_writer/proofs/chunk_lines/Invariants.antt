@@ -1,0 +1,13 @@
+use mathlib.Core.Path.{refl}
+use Prim.Native.Nat.{◌-◌}
+use lib.ListN.{length}
+use borrow.Author.Rules.{rules}
+use Rattle.texts.proofs.Append.{start}
+use Rattle.cluster_writer.proofs.Texts.{ChunksLeft, chunk_wrote, chunks_done}
+use Rattle.cluster_writer.proofs.chunk_lines.Given as goal
+
+abbrev pub invariant-loop-k : goal.invariant-loop-k
+invariant-loop-k l = ChunksLeft l.fees l.sizes l.lens l.order l.k l.start l.at l.from l.out l.initial.out
+
+abbrev pub decreases-loop-k : goal.decreases-loop-k
+decreases-loop-k l = length l.lens - l.k

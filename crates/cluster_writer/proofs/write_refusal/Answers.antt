@@ -1,0 +1,10 @@
+use native.Mathlib.Omega.{arith}
+use borrow.Author.Rules.{rules}
+use Rattle.texts.proofs.Append.{at_start, writes}
+use Rattle.cluster_writer.specs.Writing.{refusal_text}
+use Rattle.cluster_writer.proofs.Texts.{refusal_length}
+use Rattle.cluster_writer.proofs.write_refusal.Goals as goal
+
+pub returns : goal.returns
+unfolding refusal_text
+returns c = at_start (writes c.write_line.ensures (record { fits = omega (arith, refusal_length c.args.number) }))

@@ -1,0 +1,8 @@
+use mathlib.Core.Path.{sym, ap, ◌∙◌}
+use borrow.Author.Rules.{rules}
+use Rattle.feefrac.specs.Rate.{is_greater}
+use Rattle.feefrac.proofs.Order.{higher_greater}
+use Rattle.feefrac.proofs.FeeFrac.higher_rate.Goals as goal
+
+pub returns : goal.returns
+returns c = c.is_Greater.ensures ∙ ap is_greater c.compare_rates.ensures ∙ sym (higher_greater _ _)

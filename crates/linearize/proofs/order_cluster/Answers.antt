@@ -1,0 +1,25 @@
+use native.Mathlib.Omega.{arith}
+use borrow.Author.Rules.{rules}
+use Rattle.post_linearize.proofs.Checks.{new_room}
+use Rattle.linearize.proofs.order_cluster.Goals as goal
+
+pub order_in-requires : goal.order_in-requires
+order_in-requires c = let t = c.before.before.before.before in
+    let h = t.requires in record {
+      checked = h;
+      room = new_room 8 (omega (arith, h.same, t.if-fees-le-FEW.true)) (omega (arith, h.same, t.if-fees-le-FEW.true));
+      fees_in_bounds = t.if-fees-le-FEW.true;
+    }
+
+pub order_in-requires-2 : goal.order_in-requires-2
+order_in-requires-2 c = let h = c.requires in record {
+  checked = h;
+  room = new_room 64 (omega (arith, h.same, h.few)) (omega (arith, h.same, h.few));
+  fees_in_bounds = h.few;
+}
+
+pub returns-then-fees-le-FEW : goal.returns-then-fees-le-FEW
+returns-then-fees-le-FEW c = c.order_in.ensures
+
+pub returns : goal.returns
+returns c = c.order_in-2.ensures

@@ -1,0 +1,80 @@
+use Prim.Native.Nat.{◌-◌, ◌<◌}
+use native.Mathlib.Omega.{arith}
+use mathlib.Core.Path.{refl, sym, ◌∙◌}
+use lib.ListN.{length}
+use borrow.Author.Rules.{rules}
+use Rattle.txset.specs.Sets.{positions}
+use Rattle.output_order.proofs.Cutting.{Cutting, cut_start, cut_place, cut_turn, cut_done}
+use Rattle.output_order.proofs.cut.Goals as goal
+use Rattle.output_order.proofs.cut.Goals.{After-swallow-whole}
+
+pub swallow-whole-requires : goal.swallow-whole-requires
+swallow-whole-requires c = let one = c.before.before.before.before.before in
+    let turn = one.before.before in
+    let loop = turn.before in
+    let pre = loop.requires in
+    (omega (arith, one.alone-one.ensures.place, loop.loop-i.invariant.few, turn.loop-i-test.true, pre.all.few, pre.order_in_bounds), loop.loop-i.invariant.stack.tops_long)
+
+-- there is a place for what is pushed
+place : (c : After-swallow-whole) → c.swallow-whole.result.at < positions
+place c =
+    let one = c.before.before.before.before.before.before in
+    let turn = one.before.before in
+    let loop = turn.before in
+    let pre = loop.requires in
+    cut_place loop.loop-i.invariant one.alone-one.ensures c.swallow-whole.ensures turn.loop-i-test.true (omega (arith, pre.all.few, pre.order_in_bounds))
+
+pub offset_bounds-tops-at : goal.offset_bounds-tops-at
+offset_bounds-tops-at c = record { fits = omega (arith, place c.before.before.before.before.before.before.before.before) }
+
+pub bounds-tops-at : goal.bounds-tops-at
+bounds-tops-at c = let made = c.before.before.before.before.before.before.before.before in
+    let loop = made.before.before.before.before.before.before.before.before.before in
+    omega (arith, place made, loop.loop-i.invariant.stack.tops_long)
+
+pub overflow_add-count : goal.overflow_add-count
+overflow_add-count c = let made = c.before.before.before.before.before.before.before.before.before.before.before.before.before.before in
+    record { fits = omega (arith, place made) }
+
+pub overflow_add-i : goal.overflow_add-i
+overflow_add-i c = let made = c.before.before.before.before.before.before.before.before.before.before.before.before.before.before in
+    let turn = made.before.before.before.before.before.before.before.before in
+    let pre = turn.requires in
+    record { fits = omega (arith, turn.loop-i-test.true, pre.all.few, pre.order_in_bounds) }
+
+pub loop-i-preserved : goal.loop-i-preserved
+loop-i-preserved c = let rates = c.before.before.before in
+    let outside = rates.before.before.before.before.before in
+    let set = outside.before.before.before.before in
+    let made = set.before.before in
+    let one = made.before.before.before.before.before.before in
+    let turn = one.before.before in
+    let loop = turn.before in
+    let pre = loop.requires in
+    cut_turn loop.loop-i.invariant one.alone-one.ensures made.swallow-whole.ensures turn.loop-i-test.true (omega (arith, pre.all.few, pre.order_in_bounds))
+    set.put.ensures outside.put-in-loop-i.ensures refl rates.put-in-loop-i-2.ensures.fees_after rates.put-in-loop-i-2.ensures.sizes_after
+
+pub returns : goal.returns
+returns c = let pre = c.requires in
+    cut_done c.loop-i.invariant c.loop-i-test.false (omega (arith, pre.all.few, pre.order_in_bounds))
+
+pub loop-i-init : goal.loop-i-init
+loop-i-init c = cut_start c.requires.stack
+
+pub alone-one-requires : goal.alone-one-requires
+alone-one-requires c = c.requires.all
+
+pub shape_of-sets : goal.shape_of-sets
+shape_of-sets c = c.loop-i.invariant.stack.sets_long ∙ sym c.requires.stack.sets_long
+
+pub shape_of-outsides : goal.shape_of-outsides
+shape_of-outsides c = c.loop-i.invariant.stack.outsides_long ∙ sym c.requires.stack.outsides_long
+
+pub shape_of-tops : goal.shape_of-tops
+shape_of-tops c = c.loop-i.invariant.stack.tops_long ∙ sym c.requires.stack.tops_long
+
+pub shape_of-sum_fees : goal.shape_of-sum_fees
+shape_of-sum_fees c = c.loop-i.invariant.stack.fees_long ∙ sym c.requires.stack.fees_long
+
+pub shape_of-sum_sizes : goal.shape_of-sum_sizes
+shape_of-sum_sizes c = c.loop-i.invariant.stack.sizes_long ∙ sym c.requires.stack.sizes_long

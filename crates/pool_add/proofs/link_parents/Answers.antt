@@ -1,0 +1,33 @@
+use mathlib.Core.Path.{sym, ◌∙◌}
+use mathlib.Core.Logic.{⊎_elim}
+use Prim.Native.Nat.{◌-◌, ◌≤◌}
+use native.Mathlib.Omega.{arith}
+use borrow.Author.Rules.{rules}
+use Rattle.txset.specs.Sets.{has_in}
+use Rattle.pool_table.specs.Pool.{slot_count}
+use Rattle.pool_table.specs.Words.{pool_of}
+use Rattle.pool_table.specs.Changes.{Becomes}
+use Rattle.pool_add.specs.Steps.{linked_to}
+use Rattle.pool_add.proofs.Links.{linked_start, linked_skip, linked_more, linked_done}
+use Rattle.pool_add.proofs.link_parents.Goals as goal
+
+pub loop-s-init : goal.loop-s-init
+loop-s-init c = (search rules, linked_start _ _ _)
+
+pub loop-s-preserved : goal.loop-s-preserved
+loop-s-preserved c = let test = c.before in
+    let head = test.before.before in
+    let inv = head.loop-s.invariant.1 in
+    let s = head.loop-s.s in (
+      search rules,
+      ⊎_elim
+          (λ w. rw w.9 (linked_more _ _ s inv (sym test.contains.ensures ∙ w.0.taken) w.2.ensures w.6.ensures))
+          (λ w. rw w.1 (linked_skip _ _ s inv (sym test.contains.ensures ∙ w.0.left)))
+          c.if-contains.branch,
+    )
+
+pub shape_of-table : goal.shape_of-table
+shape_of-table c = c.loop-s.invariant.1.long
+
+pub returns : goal.returns
+returns c = linked_done _ _ c.loop-s.s c.loop-s.invariant.1 (omega arith)

@@ -1,0 +1,53 @@
+use mathlib.Core.Path.{◌≡◌, refl, sym, ap, ◌∙◌}
+use mathlib.Core.Bool.{true, false, not, ◌&&◌, and-false}
+use mathlib.Core.List.{List}
+use Prim.Native.Nat.{ℕ}
+use lib.ListN.{length}
+use borrow.Author.Rules.{rules}
+use borrow.Author.Tests.{not-true, not-false}
+use Rattle.refusals.specs.Refusals.{Line}
+use Rattle.refusals.proofs.Lines.{Past, none_past, past, stop, all_past, keeps, writes, Gives, Takes}
+use Rattle.pool_table.specs.declared.Limits.{Limits}
+use Rattle.pool_table.specs.Words.{is_legal, slots_in, pool_of, table_of}
+use Rattle.pool_table.specs.Ranges.{limits_in_range}
+use Rattle.pool_table.specs.Changes.{made}
+use Rattle.pool_table.proofs.Rows.{slot_count_lem}
+use Rattle.pool_rules.specs.Calls.{make_refusals, make_answer, after_make}
+use Rattle.pool_rules.proofs.Tables.{becomes_table}
+use Rattle.pool_calls.proofs.make.Goals as goal
+
+-- a table and limits with one thing wrong, and with none
+wrong : (t : List ℕ) (l : Limits) → (is_legal (length t) && limits_in_range l) ≡ false → Gives (make_refusals t l) 3
+unfolding make_refusals
+wrong t l e = stop (none_past refl) (ap not e)
+
+right : (t : List ℕ) (l : Limits) → (is_legal (length t) && limits_in_range l) ≡ true → Takes (make_refusals t l)
+unfolding make_refusals
+right t l e = all_past (past (none_past refl) (ap not e)) refl
+
+refused : (t : List ℕ) (l : Limits) → (is_legal (length t) && limits_in_range l) ≡ false → (3 ≡ make_answer t l) × (t ≡ after_make t l)
+unfolding make_answer after_make
+refused t l e = (sym (wrong t l e).answer, keeps t _ (wrong t l e))
+
+done : (t u : List ℕ) (l : Limits) → (is_legal (length t) && limits_in_range l) ≡ true → u ≡ table_of (made l (slots_in (length t)))
+    → (0 ≡ make_answer t l) × (u ≡ after_make t l)
+unfolding make_answer after_make
+done t u l e h = (sym (right t l e).answer, writes t _ (right t l e) h)
+
+pub returns-then-not-is_legal : goal.returns-then-not-is_legal
+returns-then-not-is_legal c = refused _ _ (rw (sym c.is_legal.ensures ∙ not-true c.is_legal.result c.if-not-is_legal.true))
+
+pub returns-then-not-in_range : goal.returns-then-not-in_range
+returns-then-not-in_range c = let t = c.args.table.now in
+    refused _ _ (rw (sym c.in_range.ensures ∙ not-true c.in_range.result c.if-not-in_range.true) (and-false (is_legal (length t))))
+
+pub returns : goal.returns
+returns c = let ranged = c.before.before.before.before.before in
+    let legal = ranged.before.before in
+    let a = legal.args in
+    let t = a.table.now in
+    let is : is_legal (length t) ≡ true =
+    sym legal.is_legal.ensures ∙ not-false legal.is_legal.result ranged.if-not-is_legal.false in
+    let in-range : limits_in_range a.limits ≡ true =
+    sym ranged.in_range.ensures ∙ not-false ranged.in_range.result c.if-not-in_range.false in
+    done _ _ _ (rw (is, in-range)) (becomes_table is c.make_empty.ensures ∙ ap (λ (n : ℕ). table_of (made a.limits n)) (slot_count_lem t))

@@ -1,0 +1,21 @@
+use Prim.Native.Nat.{ℕ, ◌-◌, ◌≤◌}
+use native.Mathlib.Omega.{arith}
+use borrow.Author.Rules.{rules}
+use Rattle.pool_table.specs.Pool.{slot_count}
+use Rattle.pool_table.specs.Words.{pool_of}
+use Rattle.pool_table.specs.Changes.{Becomes}
+use Rattle.pool_calls.proofs.Leaving.{up_to, walk_start, walk_turn, walk_end}
+use Rattle.pool_calls.proofs.unlink_all.Goals as goal
+
+pub loop-s-init : goal.loop-s-init
+loop-s-init c = (search rules, walk_start _ _)
+
+pub loop-s-preserved : goal.loop-s-preserved
+loop-s-preserved c = let head = c.before.before.before.before.before in
+    (search rules, walk_turn _ head.loop-s.s _ head.loop-s.table _ (omega arith) head.loop-s.invariant.1 c.unlink.ensures)
+
+pub shape_of-table : goal.shape_of-table
+shape_of-table c = c.loop-s.invariant.1.long
+
+pub returns : goal.returns
+returns c = walk_end _ c.loop-s.s _ _ (omega arith) c.loop-s.invariant.1

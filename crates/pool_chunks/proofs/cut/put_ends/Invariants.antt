@@ -1,0 +1,11 @@
+use Prim.Native.Nat.{◌-◌}
+use lib.ListN.{length}
+use borrow.Author.Rules.{rules}
+use Rattle.pool_chunks.proofs.Writing.{Ending, ending_start, ending_fits, ending_within, ending_turn, ending_done}
+use Rattle.pool_chunks.proofs.cut.put_ends.Given as goal
+
+abbrev pub invariant-loop-k : goal.invariant-loop-k
+invariant-loop-k l = Ending l.from l.lens l.initial.ends l.ends l.end l.k
+
+abbrev pub decreases-loop-k : goal.decreases-loop-k
+decreases-loop-k l = length l.lens - l.k

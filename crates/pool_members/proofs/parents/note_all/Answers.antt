@@ -1,0 +1,83 @@
+-- `note_all`: the first k members have their notes. Assumes nothing.
+use mathlib.Core.Path.{refl}
+use Prim.Native.Nat.{ℕ, ◌-◌, ◌<◌}
+use native.Mathlib.Omega.{arith}
+use lib.ListN.{length, get_or}
+use borrow.Author.Rules.{rules}
+use Rattle.lists.proofs.Lists.{elem_at}
+use Rattle.pool_table.specs.Pool.{slot_count}
+use Rattle.pool_table.specs.Words.{pool_of}
+use Rattle.pool_members.specs.Members.{parents_of}
+use Rattle.pool_members.proofs.Stored.{Storing, storing_start, storing_within, storing_more, storing_done}
+use Rattle.pool_members.proofs.Laid.{parent_in, parents_word}
+use Rattle.pool_members.proofs.parents.note_all.Goals as goal
+use Rattle.pool_members.proofs.parents.note_all.Goals.{After-rank_all, Start}
+
+-- from the call that ranks the members back to the start
+abbrev start : After-rank_all → Start
+start c = c.before.before.before.before.before.before.before
+
+-- each member is below the rooms' lengths
+below : (c : Start) (n : ℕ) → slot_count (pool_of c.args.table.now) < n → (k : ℕ) → k < length c.args.members.now
+    → get_or c.args.members.now k 0 < n
+below c n e k l = omega (arith, c.requires.closed.below (get_or c.args.members.now k 0) (elem_at c.args.members.now k l))
+
+pub rank_all-requires : goal.rank_all-requires
+rank_all-requires c = let st = c.before.before.before.before.before.before in record {
+  slots_value = st.requires.closed.once;
+  by_index = below st _ st.requires.table_in_bounds;
+}
+
+pub loop-k-init : goal.loop-k-init
+loop-k-init c = let st = start c.before.before in
+    let closed = st.pre.1.0 in
+    let long = st.pre.1.1 in
+    (storing_start _ _ _ closed.once (below st _ long.1.0), storing_start _ _ _ closed.once (below st _ long.1.1))
+
+pub parents_at-above-requires : goal.parents_at-above-requires
+parents_at-above-requires c = let rank = c.before.before.before.before.before.before in
+    let st = start rank in
+    λ a e. omega (arith, rank.rank_all.ensures.long, st.pre.1.1.0, parent_in st.args.table.now st.pre.0 _ a e)
+
+-- the member is one of the slots
+pub bounds-firsts-s : goal.bounds-firsts-s
+bounds-firsts-s c = storing_within c.loop-k.invariant.0 c.loop-k-test.true
+
+pub bounds-ups-s : goal.bounds-ups-s
+bounds-ups-s c = storing_within c.loop-k.invariant.1 c.loop-k-test.true
+
+pub loop-k-preserved : goal.loop-k-preserved
+loop-k-preserved c = let loop = c.before.before.before.before in
+    let rank = loop.before.before.before in
+    let st = start rank in
+    let ms = st.args.members.now in
+    let k = loop.loop-k.k in
+    let l = c.loop-k-test.true in
+    let word = c.parents_at-above.result.word in (
+      storing_more loop.loop-k.invariant.0 st.args.first l refl,
+      storing_more loop.loop-k.invariant.1 word l
+          (parents_word st.args.table.now st.pre.0 ms rank.rank_all.new.1.0 (get_or ms k 0) word st.pre.1.0
+          rank.rank_all.ensures.here
+          (elem_at ms k l) (omega (arith, c.parents_at-above.type_inv)) c.parents_at-above.ensures),
+    )
+
+pub shape_of-places : goal.shape_of-places
+shape_of-places c = c.rank_all.ensures.long
+
+pub shape_of-firsts : goal.shape_of-firsts
+shape_of-firsts c = c.loop-k.invariant.0.stored.long
+
+pub shape_of-ups : goal.shape_of-ups
+shape_of-ups c = c.loop-k.invariant.1.stored.long
+
+pub returns : goal.returns
+returns c = record {
+  stored_at = storing_done c.loop-k.invariant.0 c.loop-k-test.false;
+  stored_at_2 = storing_done c.loop-k.invariant.1 c.loop-k-test.false;
+}
+
+pub offset_bounds-firsts-s : goal.offset_bounds-firsts-s
+offset_bounds-firsts-s c = omega (arith, bounds-firsts-s c)
+
+pub offset_bounds-ups-s : goal.offset_bounds-ups-s
+offset_bounds-ups-s c = omega (arith, bounds-ups-s c)

@@ -1,0 +1,35 @@
+use mathlib.Core.Path.{◌≡◌, refl, sym, ap, ◌∙◌}
+use mathlib.Core.List.{List, [], ◌∷◌, ◌++◌}
+use Prim.Native.Nat.{ℕ, ◌+◌, ◌≤◌, ◌<◌}
+use native.Mathlib.Omega.{arith}
+use lib.ListN.{length, take, drop, get_or}
+use borrow.Author.Rules.{rules}
+use borrow.Author.Tests.{not-true, not-false}
+use Rattle.txids.specs.Txids.{txid_at}
+use Rattle.pool_reader.specs.Requests.{remove, as_remove}
+use Rattle.pool_reader.proofs.Reading.{txid_malformed, txid_at_lem, txid_is, words_none, words_next}
+use Rattle.pool_reader.proofs.Asking.{no_txid_remove, more_remove, is_remove}
+use Rattle.pool_reader.proofs.read_remove.Goals as goal
+
+pub returns-in_default : goal.returns-in_default
+returns-in_default c = let r = c.read_txid in
+    λ ps. sym (no_txid_remove _ (txid_malformed c.args.line.now
+    c.args.from 0 c.args.txid.now r.new.1.1.0
+    c.in_default.is r.ensures))
+
+pub returns-then-end-line : goal.returns-then-end-line
+returns-then-end-line c = let r = c.read_txid in
+    let t = txid_at_lem c.args.line.now
+    c.args.from 0
+    c.args.txid.now r.new.1.1.0 c.in-At.is r.ensures in
+    λ ps. sym (ap as_remove (t.words ∙ ap (λ (ws : List (List ℕ)). t.word ∷ ws) (words_next _ _ c.if-end-line.true)) ∙ more_remove _ _ _)
+
+pub returns : goal.returns
+returns c = let r = c.read_txid in
+    let t = txid_at_lem c.args.line.now
+    c.args.from 0
+    c.args.txid.now r.new.1.1.0 c.in-At.is r.ensures in
+    let long : length c.args.txid.now ≡ 32 = search rules in
+    λ ps.
+    ap (λ (x : List ℕ). remove (txid_at x 0)) (txid_is long t)
+    ∙ sym (ap as_remove (t.words ∙ ap (λ (ws : List (List ℕ)). t.word ∷ ws) (words_none _ _ c.if-end-line.false)) ∙ is_remove t.word t.hex)

@@ -1,0 +1,15 @@
+use mathlib.Core.Path.{◌≡◌, refl, sym, ◌∙◌}
+use mathlib.Core.List.{List}
+use Prim.Native.Nat.{ℕ, ◌≤◌, ◌+◌, ◌-◌}
+use native.Mathlib.Omega.{arith}
+use lib.ListN.{length, get_or, drop}
+use borrow.Author.Rules.{rules}
+use Rattle.lists.specs.Lists as spec
+use Rattle.pool_reader.proofs.Reading.{same_short, same_other, same_turn, same_end}
+use Rattle.pool_reader.proofs.words.is_word.Given as goal
+
+abbrev pub invariant-loop-i : goal.invariant-loop-i
+invariant-loop-i l = (l.i ≤ length l.key) × (spec.same l.word l.key ≡ spec.same (drop l.i l.word) (drop l.i l.key)) × (l.i ≤ length l.word)
+
+abbrev pub decreases-loop-i : goal.decreases-loop-i
+decreases-loop-i l = length l.key - l.i

@@ -1,0 +1,37 @@
+use mathlib.Core.Path.{◌≡◌, refl, sym, ap, ◌∙◌}
+use mathlib.Core.List.{List, [], ◌∷◌, ◌++◌}
+use Prim.Native.Nat.{ℕ, ◌+◌, ◌≤◌, ◌<◌}
+use native.Mathlib.Omega.{arith}
+use lib.ListN.{length, take, drop, get_or}
+use borrow.Author.Rules.{rules}
+use borrow.Author.Tests.{not-true, not-false}
+use mathlib.Core.Bool.{Bool, true, false}
+use lib.Dec.{ltb}
+use borrow.Author.Tests.{lt-ltb, le-ltb, ltb-true}
+use Rattle.lists.proofs.Bools.{clash}
+use mathlib.Core.Logic.{⊎_elim}
+use Rattle.lists.proofs.Numbers.{lt_or_ge}
+use Rattle.pool_reader.specs.Steps.{Numbers}
+use Rattle.pool_reader.proofs.Reading.{numbers_malformed, numbers_at, not_only, numbers_end, numbers_more}
+use Rattle.pool_reader.proofs.words.only_numbers.Goals as goal
+
+pub returns-in_default : goal.returns-in_default
+returns-in_default c = let r = c.read_numbers in
+    let text = c.args.text.now in
+    let values = r.new.1.1.0 in record {
+      value = sym (not_only _ values (numbers_malformed text c.args.from values
+          c.in_default.is r.ensures));
+      values_after = λ e. clash e refl;
+    }
+
+pub returns : goal.returns
+returns c = let r = c.read_numbers in
+    let text = c.args.text.now in
+    let values = r.new.1.1.0 in
+    let n = numbers_at text c.args.from values c.in-At.is
+    r.ensures in
+    let end = c.in-At.end in record {
+      value = ⊎_elim (λ l. lt-ltb (length text) end l ∙ sym (numbers_end n l).0) (λ l. le-ltb (length text) end l ∙ sym (numbers_more n l))
+          (lt_or_ge (length text) end);
+      values_after = λ e. (numbers_end n (ltb-true (length text) end e)).1;
+    }

@@ -1,0 +1,28 @@
+use mathlib.Core.Path.{◌≡◌, sym, ap, ◌∙◌}
+use Prim.Native.Nat.{◌-◌, ◌/◌, ◌≤◌}
+use native.Mathlib.Omega.{arith}
+use lib.ListN.{length}
+use borrow.Author.Rules.{rules}
+use Rattle.slotsets.specs.SlotSets.{set_of}
+use Rattle.slotsets.proofs.SlotSets.{set_long}
+use Rattle.pool_table.specs.Words.{pool_of}
+use Rattle.pool_rules.proofs.Listed.{among, listed_start, listed_turn, listed_done}
+use Rattle.pool_rules.proofs.listed_slots.Goals as goal
+
+pub loop-j-init : goal.loop-j-init
+loop-j-init c = (search rules, listed_start _ _ _)
+
+pub slice_bounds-enter-end : goal.slice_bounds-enter-end
+slice_bounds-enter-end c = sym (ap length c.loop-j.invariant.1 ∙ set_long _)
+
+pub enter-requires : goal.enter-requires
+enter-requires c = ap length c.loop-j.invariant.1 ∙ set_long _
+
+pub loop-j-preserved : goal.loop-j-preserved
+loop-j-preserved c = let enter = c.before in
+    let at = enter.before in
+    let head = at.before.before.before in
+    (search rules, listed_turn _ _ _ head.loop-j.j _ _ _ head.loop-j.invariant.1 at.at.ensures enter.enter.ensures)
+
+pub returns : goal.returns
+returns c = listed_done _ _ _ c.loop-j.j _ (omega arith) c.loop-j.invariant.1

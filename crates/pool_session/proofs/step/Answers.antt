@@ -1,0 +1,7 @@
+use mathlib.Core.Path.{refl}
+use borrow.Author.Rules.{rules}
+use Rattle.pool_session.proofs.Steps.{asks}
+use Rattle.pool_session.proofs.step.Goals as goal
+
+pub returns : goal.returns
+returns c = asks c.held.ensures refl c.answer.ensures

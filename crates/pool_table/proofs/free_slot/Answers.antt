@@ -1,0 +1,26 @@
+use native.Mathlib.Omega.{arith}
+use borrow.Author.Rules.{rules}
+use Rattle.pool_table.specs.Pool.{free}
+use Rattle.pool_table.proofs.Changes.{row_there, row_none, row_end, freed}
+use Rattle.pool_table.proofs.free_slot.Goals as goal
+
+pub returns-then-at-eq0 : goal.returns-then-at-eq0
+returns-then-at-eq0 c = let a = c.args in
+    row_none a.table.now a.s c.row_of-at.ensures (λ x. free) c.if-at-eq0.true
+
+pub overflow_add-end : goal.overflow_add-end
+overflow_add-end c = let a = c.args in
+    omega (arith, row_end (row_there a.table.now a.s c.row_of-at.ensures c.if-at-eq0.false))
+
+pub offset_bounds-table-at : goal.offset_bounds-table-at
+offset_bounds-table-at c = let a = c.args in
+    omega (arith, row_end (row_there a.table.now a.s c.row_of-at.ensures c.if-at-eq0.false))
+
+pub slice_bounds-clear-end : goal.slice_bounds-clear-end
+slice_bounds-clear-end c = let a = c.args in
+    omega (arith, row_end (row_there a.table.now a.s c.row_of-at.ensures c.if-at-eq0.false))
+
+pub returns : goal.returns
+returns c = let a = c.args in
+    let r = row_there a.table.now a.s c.row_of-at.ensures c.if-at-eq0.false in
+    freed a.table.now c.clear.new.0 a.s r c.clear.ensures

@@ -1,0 +1,10 @@
+use borrow.Author.Rules.{rules}
+use native.Mathlib.Omega.{arith}
+use Rattle.pool_writer.proofs.Texts.{Spelling, none_spelt, byte_spelt, all_spelt}
+use Rattle.pool_writer.proofs.bytes_of.Given as goal
+
+abbrev pub invariant-loop-k : goal.invariant-loop-k
+invariant-loop-k l = Spelling l.word l.left l.k l.bytes
+
+abbrev pub decreases-loop-k : goal.decreases-loop-k
+decreases-loop-k l = l.k

@@ -1,0 +1,25 @@
+use mathlib.Core.Path.{◌≡◌, refl, ◌∙◌}
+use Prim.Native.Nat.{◌-◌}
+use native.Mathlib.Omega.{arith}
+use lib.ListN.{length}
+use borrow.Author.Rules.{rules}
+use Rattle.texts.specs.Writing.{joined}
+use Rattle.texts.specs.Rooms.{Room}
+use Rattle.texts.proofs.Numbers.{ItemsLeft, items_start, item_wrote, items_done}
+use Rattle.pool_writer.specs.Texts.{slot_text}
+use Rattle.pool_writer.proofs.write_txids.Goals as goal
+
+pub loop-k-init : goal.loop-k-init
+loop-k-init c = (refl, λ r. items_start refl r)
+
+pub loop-k-preserved : goal.loop-k-preserved
+loop-k-preserved c = let wrote = c.before.before in
+    let turn = wrote.before.before.before in
+    let inv = turn.loop-k.invariant in
+    (wrote.next_txid-at.auto.1.1.1.0 ∙ inv.0, λ r. item_wrote (inv.1 r) turn.loop-k-test.true wrote.next_txid-at.ensures)
+
+pub shape_of-out : goal.shape_of-out
+shape_of-out c = c.loop-k.invariant.0
+
+pub returns : goal.returns
+returns c = items_done (c.loop-k.invariant.1 r) c.loop-k-test.false

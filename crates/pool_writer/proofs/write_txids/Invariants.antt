@@ -1,0 +1,16 @@
+use mathlib.Core.Path.{◌≡◌, refl, ◌∙◌}
+use Prim.Native.Nat.{◌-◌}
+use native.Mathlib.Omega.{arith}
+use lib.ListN.{length}
+use borrow.Author.Rules.{rules}
+use Rattle.texts.specs.Writing.{joined}
+use Rattle.texts.specs.Rooms.{Room}
+use Rattle.texts.proofs.Numbers.{ItemsLeft, items_start, item_wrote, items_done}
+use Rattle.pool_writer.specs.Texts.{slot_text}
+use Rattle.pool_writer.proofs.write_txids.Given as goal
+
+abbrev pub invariant-loop-k : goal.invariant-loop-k
+invariant-loop-k l = (length l.out ≡ length l.initial.out) × (Room (joined (slot_text l.table) l.slots) l.from l.initial.out → ItemsLeft (slot_text l.table) l.slots l.k l.at l.from l.out l.initial.out)
+
+abbrev pub decreases-loop-k : goal.decreases-loop-k
+decreases-loop-k l = length l.slots - l.k

@@ -1,0 +1,13 @@
+use mathlib.Core.Logic.{inl, inr}
+use Prim.Native.Nat.{◌-◌}
+use native.Mathlib.Omega.{arith}
+use lib.ListN.{length}
+use borrow.Author.Rules.{rules}
+use Rattle.slotsets.proofs.Words.{Upto, upto_start, upto_done, joined, joined_past, joined_turn}
+use Rattle.slotsets.proofs.join.Given as goal
+
+abbrev pub invariant-loop-j : goal.invariant-loop-j
+invariant-loop-j l = Upto (joined l.initial.set l.more) l.j l.initial.set l.set
+
+abbrev pub decreases-loop-j : goal.decreases-loop-j
+decreases-loop-j l = length l.initial.set - l.j

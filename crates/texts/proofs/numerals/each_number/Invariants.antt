@@ -1,0 +1,13 @@
+use Prim.Native.Nat.{◌-◌}
+use native.Mathlib.Omega.{arith}
+use lib.ListN.{length}
+use borrow.Author.Rules.{rules}
+use Rattle.texts.specs.Writing.{decimal}
+use Rattle.texts.proofs.Numbers.{ItemsLeft, items_start, item_wrote, items_done}
+use Rattle.texts.proofs.numerals.each_number.Given as goal
+
+abbrev pub invariant-loop-done : goal.invariant-loop-done
+invariant-loop-done l = ItemsLeft decimal l.numbers l.done l.at l.from l.out l.initial.out
+
+abbrev pub decreases-loop-done : goal.decreases-loop-done
+decreases-loop-done l = length l.numbers - l.done

@@ -1,0 +1,43 @@
+use mathlib.Core.Path.{◌≡◌, sym, ap, ◌∙◌}
+use Prim.Native.Nat.{◌-◌}
+use native.Mathlib.Omega.{arith}
+use lib.ListN.{length, drop, length-drop}
+use lib.Seq.{take_all}
+use borrow.Author.Rules.{rules}
+use Rattle.texts.specs.Numerals.{negative, positive, number_of, signed_of}
+use Rattle.texts.proofs.Decimals.{no_text, minus, no_minus, positive_large, positive_fits}
+use Rattle.texts.proofs.numerals.read_signed.Goals as goal
+use Rattle.texts.proofs.numerals.read_signed.Goals.{After-read_number, After-read_number-2}
+
+-- the number behind the minus sign
+behind : (c : After-read_number) → signed_of c.args.text.now ≡ negative c.read_number.result
+behind c =
+    let text = c.args.text.now in
+    minus text c.if-text-eq0.false c.if-text-eq45.true
+    ∙ ap negative (sym (c.read_number.ensures ∙ ap number_of (take_all (length text - 1) (drop 1 text) (simp length-drop (omega arith)))))
+
+-- the number without one
+whole : (c : After-read_number-2) → signed_of c.args.text.now ≡ positive c.read_number-2.result
+whole c =
+    no_minus c.args.text.now c.if-text-eq0.false c.if-text-eq45.false
+    ∙ ap positive (sym c.read_number-2.ensures)
+
+pub returns-in_default : goal.returns-in_default
+returns-in_default c = sym (behind c.before.before ∙ ap negative c.in_default.is)
+
+pub returns-then-text-eq45 : goal.returns-then-text-eq45
+returns-then-text-eq45 c = c.below_zero.ensures ∙ sym (behind c.before.before.before.before ∙ ap negative c.in-Value.is)
+
+pub returns-in_default-read_number : goal.returns-in_default-read_number
+returns-in_default-read_number c = sym (whole c.before.before ∙ ap positive c.in_default-read_number.is)
+
+pub returns-then-size-gt9223372036854775807 : goal.returns-then-size-gt9223372036854775807
+returns-then-size-gt9223372036854775807 c = let d = c.before.before in
+    sym (whole d.before.before ∙ ap positive d.in-Value-read_number.is ∙ positive_large d.in-Value-read_number.size c.if-size-gt9223372036854775807.true)
+
+pub returns : goal.returns
+returns c = let d = c.before.before in
+    sym (whole d.before.before ∙ ap positive d.in-Value-read_number.is ∙ positive_fits d.in-Value-read_number.size c.if-size-gt9223372036854775807.false)
+
+pub returns-then-text-eq0 : goal.returns-then-text-eq0
+returns-then-text-eq0 c = sym (no_text c.args.text.now c.if-text-eq0.true)
