@@ -48,7 +48,7 @@ loop-count-preserved c = let add = c.before.before in
     inner.loop-count.invariant
     inner.loop-count-test.true
     top.stacked-last.ensures
-    (not-false _ (rw test.higher_rate.ensures at add.if-not-higher_rate.false))
+    ((rw test.higher_rate.ensures at add.if-not-higher_rate.false))
     add.add.ensures
 
 -- however the inner loop is left, nothing more is swallowed
@@ -58,7 +58,7 @@ stopped : (c : Left-loop-count) → let l = c.loop-i in
 stopped c =
     ⊎_elim
     (λ w. stopped_empty _ _ _ _ _ w.left)
-    (λ w. stopped_top c.loop-count.invariant w.0.taken w.4.ensures (not-true _ (rw w.5.ensures at w.6.taken)))
+    (λ w. stopped_top c.loop-count.invariant w.0.taken w.4.ensures ((rw w.5.ensures at w.6.taken)))
     c.loop-count-test.branch
 
 pub bounds-lens-count : goal.bounds-lens-count

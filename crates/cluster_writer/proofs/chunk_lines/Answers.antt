@@ -14,7 +14,7 @@ loop-k-preserved c = let sum = c.before.before.before.before in
     let end = sum.before.before in
     let turn = end.before.before in
     chunk_wrote turn.loop-k.invariant turn.loop-k-test.true end.chunk_end-end.ensures sum.list_feerate-rate.ensures
-    c.one_Chunk.auto.1.1.0 c.one_Chunk.ensures
+    c.one_chunk-at.auto.1.1.0 c.one_chunk-at.ensures
 
 pub shape_of-out : goal.shape_of-out
 shape_of-out c = c.loop-k.invariant.long

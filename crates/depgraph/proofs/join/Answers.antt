@@ -12,7 +12,7 @@ use Rattle.depgraph.proofs.join.Goals as goal
 use Rattle.depgraph.proofs.join.Goals.{In-loop-set}
 
 left : (c : In-loop-set) → is_empty c.loop-set.rest ≡ false
-left c = sym c.is_empty.ensures ∙ not-true _ c.loop-set-test.true
+left c = sym c.is_empty.ensures ∙ c.loop-set-test.true
 
 pub offset_bounds-sets-i : goal.offset_bounds-sets-i
 offset_bounds-sets-i c = let low = c.before in record { fits = omega (arith, next_position _ (left low.before) low.lowest-i.ensures) }
@@ -47,4 +47,4 @@ pub shape_of-sets : goal.shape_of-sets
 shape_of-sets c = c.loop-set.invariant.joining.same
 
 pub returns : goal.returns
-returns c = join_done (sym c.is_empty.ensures ∙ not-false _ c.loop-set-test.false) c.loop-set.invariant.joining
+returns c = join_done (sym c.is_empty.ensures ∙ c.loop-set-test.false) c.loop-set.invariant.joining

@@ -13,7 +13,7 @@ use Rattle.feeset.proofs.set_feerate.Goals.{In-loop-rest}
 
 -- in a turn the rest is not empty
 some : (c : In-loop-rest) → is_empty c.loop-rest.rest ≡ false
-some c = sym c.is_empty.ensures ∙ not-true _ c.loop-rest-test.true
+some c = sym c.is_empty.ensures ∙ c.loop-rest-test.true
 
 pub loop-rest-smaller : goal.loop-rest-smaller
 loop-rest-smaller c = let turn = c.before.before.before.before in walk_less _ _ c.without_lowest-rest.ensures (some turn)
@@ -33,7 +33,7 @@ pub returns : goal.returns
 unfolding total_from
 returns c = let loop = c.before.before in
     let args = loop.args in
-    ap (total_from args.fees.now args.sizes.now loop.loop-rest.sum) (sym (walk_done _ (sym c.is_empty.ensures ∙ not-false _ c.loop-rest-test.false)))
+    ap (total_from args.fees.now args.sizes.now loop.loop-rest.sum) (sym (walk_done _ (sym c.is_empty.ensures ∙ c.loop-rest-test.false)))
     ∙ loop.loop-rest.invariant
     ∙ ap (λ (r : FeeFrac). total_from args.fees.now args.sizes.now r (members args.set)) loop.zero-sum.ensures
 

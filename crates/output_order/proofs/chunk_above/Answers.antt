@@ -8,7 +8,7 @@ pub returns : goal.returns
 unfolding sum_above
 returns c = let tops = c.before.before in
     let rank = tops.before.before.before in
-    c.is_Greater.ensures
+    c.is_greater.ensures
     ∙ ap is_greater
     (c.then_by.ensures
     ∙ ap₂ then_by (rank.rank-by_rank.ensures ∙ ap₂ rank_order rank.at.ensures rank.at-2.ensures) tops.compare_sizes-by_top.ensures)

@@ -18,7 +18,7 @@ next c =
     let lowest = c.before.before in
     let empty = lowest.before.before in
     record {
-      left = sym empty.is_empty.ensures ∙ not-true _ lowest.loop-drops-test.true;
+      left = sym empty.is_empty.ensures ∙ lowest.loop-drops-test.true;
       first = lowest.lowest-k.ensures;
       rest = c.without_lowest-rest.ensures;
     }
@@ -33,13 +33,13 @@ tested c =
 
 pub loop-drops-preserved-then-not-is_subset : goal.loop-drops-preserved-then-not-is_subset
 loop-drops-preserved-then-not-is_subset c = let w = c.before.before.before in
-    found_skip w.loop-drops.invariant (next w) (tested c.before ∙ not-true _ c.if-not-is_subset.true)
+    found_skip w.loop-drops.invariant (next w) (tested c.before ∙ c.if-not-is_subset.true)
 
 -- the lowest is ready
 ready : (c : Else-not-is_subset)
     → let args = c.args in
     covered args.outsides.now args.done c.lowest-k.result ≡ true
-ready c = tested c.before ∙ not-false _ c.if-not-is_subset.false
+ready c = tested c.before ∙ c.if-not-is_subset.false
 
 pub loop-drops-preserved-then-found-eq-POSITIONS : goal.loop-drops-preserved-then-found-eq-POSITIONS
 loop-drops-preserved-then-found-eq-POSITIONS c = let w = c.before.before.before.before in
@@ -70,12 +70,12 @@ returns-then-contains c = let contains = c.before.before in
     let empty = lowest.before.before in
     let loop = empty.before in
     c.found_choice.ensures
-    ∙ found_drop _ _ _ _ _ loop.loop-drops.invariant loop.requires.below (sym empty.is_empty.ensures ∙ not-true _ lowest.loop-drops-test.true)
+    ∙ found_drop _ _ _ _ _ loop.loop-drops.invariant loop.requires.below (sym empty.is_empty.ensures ∙ lowest.loop-drops-test.true)
     lowest.lowest-k.ensures contains.if-found-k.true (sym contains.contains.ensures ∙ c.if-contains.true)
 
 pub returns : goal.returns
 returns c = let end = c.before in
-    c.found_choice-2.ensures ∙ found_stop end.loop-drops.invariant (sym end.is_empty.ensures ∙ not-false _ end.loop-drops-test.false)
+    c.found_choice-2.ensures ∙ found_stop end.loop-drops.invariant (sym end.is_empty.ensures ∙ end.loop-drops-test.false)
 
 pub loop-drops-init : goal.loop-drops-init
 loop-drops-init c = found_start _ _ _ _ refl

@@ -29,7 +29,7 @@ next : (c : After-without_lowest-rest)
 next c =
     let empty = c.before.before.before in
     record {
-      left = sym empty.is_empty-in-loop-all.ensures ∙ not-true _ c.loop-all-test.true;
+      left = sym empty.is_empty-in-loop-all.ensures ∙ c.loop-all-test.true;
       first = c.lowest-t.ensures;
       rest = c.without_lowest-rest.ensures;
     }
@@ -50,14 +50,14 @@ tested c =
 
 pub loop-all-preserved-then-not-is_subset : goal.loop-all-preserved-then-not-is_subset
 loop-all-preserved-then-not-is_subset c = let w = c.before.before.before.before.before in
-    found_skip w.loop-all.invariant (next w) (tested c.before ∙ not-true _ c.if-not-is_subset.true)
+    found_skip w.loop-all.invariant (next w) (tested c.before ∙ c.if-not-is_subset.true)
 
 -- the lowest is ready
 ready : (c : Else-not-is_subset)
     → let w = c.before.before.before.before.before in
     let args = w.args in
     freed args.ancestors.now args.all args.done w.lowest-t.result ≡ true
-ready c = tested c.before ∙ not-false _ c.if-not-is_subset.false
+ready c = tested c.before ∙ c.if-not-is_subset.false
 
 pub loop-all-preserved-then-found-eq-POSITIONS : goal.loop-all-preserved-then-found-eq-POSITIONS
 loop-all-preserved-then-found-eq-POSITIONS c = let w = c.before.before.before.before.before.before in
@@ -68,11 +68,11 @@ ranked : (c : After-is_greater)
     → let w = c.before.before.before.before.before.before.before.before.before.before in
     let loop = w.before.before.before.before in
     let args = loop.args in
-    ranks_above (rate_at args.fees.now args.sizes.now) w.lowest-t.result loop.loop-all.found ≡ c.is_Greater.result
+    ranks_above (rate_at args.fees.now args.sizes.now) w.lowest-t.result loop.loop-all.found ≡ c.is_greater.result
 unfolding ranks_above
 ranked c =
     let rank = c.before in
-    sym (c.is_Greater.ensures ∙ ap is_greater (rank.rank.ensures ∙ ap₂ rank_order rank.at-in-loop-all.ensures rank.at-in-loop-all-2.ensures))
+    sym (c.is_greater.ensures ∙ ap is_greater (rank.rank.ensures ∙ ap₂ rank_order rank.at-in-loop-all.ensures rank.at-in-loop-all-2.ensures))
 
 pub loop-all-preserved-then-is_greater : goal.loop-all-preserved-then-is_greater
 loop-all-preserved-then-is_greater c = let else3 = c.before.before.before.before.before in
@@ -86,7 +86,7 @@ loop-all-preserved c = let else3 = c.before.before.before.before.before in
 
 pub returns : goal.returns
 returns c = let end = c.before in
-    c.found_choice.ensures ∙ found_stop end.loop-all.invariant (sym end.is_empty-in-loop-all.ensures ∙ not-false _ end.loop-all-test.false)
+    c.found_choice.ensures ∙ found_stop end.loop-all.invariant (sym end.is_empty-in-loop-all.ensures ∙ end.loop-all-test.false)
 
 pub loop-all-init : goal.loop-all-init
 loop-all-init c = found_start _ _ _ _ refl

@@ -62,10 +62,10 @@ loop-all-preserved c = let d = c.before.before.before in
 pub returns : goal.returns
 returns c = let loop = c.before.before in
     let start = loop.before.before.before.before.before.before in
-    putting_done loop.loop-all.invariant.0 start.requires.all _ loop.subtract-left.ensures (sym c.is_empty.ensures ∙ not-false _ c.loop-all-test.false)
+    putting_done loop.loop-all.invariant.0 start.requires.all _ loop.subtract-left.ensures (sym c.is_empty.ensures ∙ c.loop-all-test.false)
 
 pub next_member-requires : goal.next_member-requires
-next_member-requires c = let empty = c.before in (sym empty.is_empty.ensures ∙ not-true _ c.loop-all-test.true, empty.loop-all.invariant.1)
+next_member-requires c = let empty = c.before in (sym empty.is_empty.ensures ∙ c.loop-all-test.true, empty.loop-all.invariant.1)
 
 pub shape_of-room-in_default : goal.shape_of-room-in_default
 shape_of-room-in_default c = c.loop-all.invariant.0.long

@@ -19,7 +19,7 @@ returns-then-not-higher_rate c = let test = c.before in
     let inner = last.before.before in
     let loop = inner.loop-cur in
     stopped_top loop.invariant (loop.cur.at - 1) inner.loop-cur-test.true refl
-    (ap (higher loop.cur.rate) (sym last.at-rate.ensures) ∙ sym test.higher_rate.ensures ∙ not-true _ c.if-not-higher_rate.true)
+    (ap (higher loop.cur.rate) (sym last.at-rate.ensures) ∙ sym test.higher_rate.ensures ∙ c.if-not-higher_rate.true)
 
 -- the place before it is one of the lists
 place : (c : After-add)
@@ -43,7 +43,7 @@ loop-cur-preserved c = let add = c.before.before in
     let inner = last.before.before in
     let loop = inner.loop-cur in
     grow_turn loop.invariant (loop.cur.at - 1) inner.loop-cur-test.true refl
-    (ap (higher loop.cur.rate) (sym last.at-rate.ensures) ∙ sym test.higher_rate.ensures ∙ not-false _ set.if-not-higher_rate.false)
+    (ap (higher loop.cur.rate) (sym last.at-rate.ensures) ∙ sym test.higher_rate.ensures ∙ set.if-not-higher_rate.false)
     _ _ more.union.result _ _
     (add.add.ensures ∙ ap (sum loop.cur.rate) last.at-rate.ensures)
     (λ i. both.union-set.ensures i ∙ ap (λ (s : TxSet). mem loop.cur.set i || mem s i) set.at.ensures)

@@ -50,7 +50,7 @@ unfolding add_refusals
 past_0 k = none_past refl
 
 well : (e : Else-not-is_well_formed) → well_formed (table e.before) ≡ true
-well e = sym e.is_well_formed.ensures ∙ not-false _ e.if-not-is_well_formed.false
+well e = sym e.is_well_formed.ensures ∙ e.if-not-is_well_formed.false
 
 past_1 : (e : Else-not-is_well_formed) → Past (lines e.before) 1
 unfolding add_refusals
@@ -59,7 +59,7 @@ past_1 e = past (past_0 e.before) (ap not (well e))
 pub returns-then-not-is_well_formed : goal.returns-then-not-is_well_formed
 unfolding add_reply after_add add_refusals
 returns-then-not-is_well_formed c = let k = c.before.before in
-    refuses_keeps _ _ _ _ (stop (past_0 k) (ap not (sym k.is_well_formed.ensures ∙ not-true _ c.if-not-is_well_formed.true))) c.refused.ensures
+    refuses_keeps _ _ _ _ (stop (past_0 k) (ap not (sym k.is_well_formed.ensures ∙ c.if-not-is_well_formed.true))) c.refused.ensures
 
 past_2 : (e : Else-parents-ne0) → Past (lines e.before.before) 2
 unfolding add_refusals
@@ -85,12 +85,12 @@ ranged r = r.in_range.ensures ∙ ap entry_in_range (entry_is r.before)
 
 past_3 : (e : Else-not-in_range) → Past (lines e.before.before.before.before.before) 3
 unfolding add_refusals
-past_3 e = past (past_2 e.before.before.before) (ap not (sym (ranged e.before) ∙ not-false _ e.if-not-in_range.false))
+past_3 e = past (past_2 e.before.before.before) (ap not (sym (ranged e.before) ∙ e.if-not-in_range.false))
 
 pub returns-then-not-in_range : goal.returns-then-not-in_range
 unfolding add_reply after_add add_refusals
 returns-then-not-in_range c = let r = c.before.before in
-    refuses_keeps _ _ _ _ (stop (past_2 r.before.before) (ap not (sym (ranged r) ∙ not-true _ c.if-not-in_range.true))) c.refused-then-not-in_range.ensures
+    refuses_keeps _ _ _ _ (stop (past_2 r.before.before) (ap not (sym (ranged r) ∙ c.if-not-in_range.true))) c.refused-then-not-in_range.ensures
 
 -- where the tests before it stand
 abbrev made : After-find → After-of-id
@@ -182,7 +182,7 @@ returns-then-limits-union c = let o = c.before.before.before in
 light : (f : After-find) → (given (known f)).weight.0 ≤ 4000000
 light f =
     let e = f.before.before in
-    entry_small (given (known f)) (sym (ranged e.before) ∙ not-false _ e.if-not-in_range.false)
+    entry_small (given (known f)) (sym (ranged e.before) ∙ e.if-not-in_range.false)
 
 pub overflow_add-together : goal.overflow_add-together
 overflow_add-together c = let u = c.before.before.before.before.before in

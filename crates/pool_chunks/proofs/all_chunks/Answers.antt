@@ -158,20 +158,20 @@ module _ (c : After-cut_all-count) where
   order = (laidAt (else_of c)).lay_out-laid.new.1.1.1.1.1.1.0
 
   -- as many places of the order are lent as there are chunks
-  fits : c.Cut-all.result ≤ length order
-  fits = omega (arith, c.Cut-all.ensures.few, (rooms (else_of c)).5, (laidAt (else_of c)).lay_out-laid.auto.1.1.1.1.1.1.0)
+  fits : c.cut_all-count.result ≤ length order
+  fits = omega (arith, c.cut_all-count.ensures.few, (rooms (else_of c)).5, (laidAt (else_of c)).lay_out-laid.auto.1.1.1.1.1.1.0)
 
-  lent_long : length (take c.Cut-all.result order) ≡ c.Cut-all.result
-  lent_long = length-take-le c.Cut-all.result order fits
+  lent_long : length (take c.cut_all-count.result order) ≡ c.cut_all-count.result
+  lent_long = length-take-le c.cut_all-count.result order fits
 
 pub sort_chunks-requires : goal.sort_chunks-requires
 sort_chunks-requires c = let cut = c.before.before.before.before.before.before.before.before.before.before.before in
     let else = else_of cut in
     let laid = laidAt else in
-    let told = cut.Cut-all.ensures in record {
+    let told = cut.cut_all-count.ensures in record {
       rated = rw (lent_long cut)
-          (rated (sane else) told (omega (arith, in_fees laid, cut.Cut-all.auto.1.1.1.1.1.1.1.1.0))
-          (omega (arith, (rooms else).7, laid.lay-out.kept.1.1.1.1.1.1.1.1.0, cut.Cut-all.auto.1.1.1.1.1.1.1.1.1.0)));
+          (rated (sane else) told (omega (arith, in_fees laid, cut.cut_all-count.auto.1.1.1.1.1.1.1.1.0))
+          (omega (arith, (rooms else).7, laid.lay-out.kept.1.1.1.1.1.1.1.1.0, cut.cut_all-count.auto.1.1.1.1.1.1.1.1.1.0)));
       order_in_bounds = omega (arith, lent_long cut, told.few, in_bounds else);
     }
 

@@ -27,7 +27,7 @@ abbrev set_of : After-lowest-j → List ℕ
 set_of c = (head_of c).args.set.now
 
 left : (c : After-lowest-j) → is_empty (head_of c).loop-rest.rest ≡ false
-left c = sym c.is_empty.ensures ∙ not-true _ c.loop-rest-test.true
+left c = sym c.is_empty.ensures ∙ c.loop-rest-test.true
 
 below : (c : After-lowest-j) → c.lowest-j.result < set_words
 below c = ahead_below (head_of c).loop-rest.invariant.1 (left c) c.lowest-j.ensures
@@ -66,7 +66,7 @@ returns c = let head = c.before.before in
     let a = l.invariant.1 in
     l.invariant.2
     ∙ gap_count head.args.set.now l.invariant.0 set_words a.within
-    (ahead_end a (sym c.is_empty.ensures ∙ not-false _ c.loop-rest-test.false))
+    (ahead_end a (sym c.is_empty.ensures ∙ c.loop-rest-test.false))
 
 pub offset_bounds-set-j : goal.offset_bounds-set-j
 offset_bounds-set-j c = omega (arith, below c.before)

@@ -30,7 +30,7 @@ loop-k-preserved c = let turn = c.before.before in
     )
 
 pub returns : goal.returns
-returns c = let l = c.loop-k in
+returns c i = let l = c.loop-k in
     let start = c.before.before.before.before in
     let ws = start.args.words.now in
     l.invariant.1 i

@@ -54,7 +54,7 @@ abbrev links_of : At-loop-words → After-links-words
 links_of c = c.before.before
 
 left : (c : After-lowest-j) → is_empty (head_of c).loop-words.rest ≡ false
-left c = sym c.is_empty.ensures ∙ not-true _ c.loop-words-test.true
+left c = sym c.is_empty.ensures ∙ c.loop-words-test.true
 
 below : (c : After-lowest-j) → c.lowest-j.result < set_words
 below c = ahead_below (head_of c).loop-words.invariant.1 (left c) c.lowest-j.ensures
@@ -99,7 +99,7 @@ pub returns : goal.returns
 returns c = let head = c.before.before in
     let a = head.loop-words.invariant.1 in
     let w = head.loop-words.invariant.2 in
-    let gap = ahead_end a (sym c.is_empty.ensures ∙ not-false _ c.loop-words-test.false) in
+    let gap = ahead_end a (sym c.is_empty.ensures ∙ c.loop-words-test.false) in
     let all = walking_gap (children (links_of head)) a.within gap w in record {
       walk = λ h. (release_done (start_of (links_of head)).args.table.now all, w.here);
       table_value = λ h. clash refl h;

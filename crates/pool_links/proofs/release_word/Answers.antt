@@ -44,7 +44,7 @@ loop-rest-init c = let start = c.before.before.before in
     (walking_ext (start_same p a.a a.j a.word.word e) start.requires.walking, word_left p a.a a.j a.word.word e)
 
 left : (c : In-loop-rest) → is_empty c.loop-rest.rest ≡ false
-left c = sym c.is_empty.ensures ∙ not-true _ c.loop-rest-test.true
+left c = sym c.is_empty.ensures ∙ c.loop-rest-test.true
 
 pub overflow_add-c : goal.overflow_add-c
 overflow_add-c c = let l = c.loop-rest in
@@ -99,13 +99,13 @@ returns-then-not-is_tied c = let k = c.before in
     let start = start_of (head_of k) in (
       λ h. clash h refl,
       λ h. tied_fails start.args.table.now start.args.a (child_of k) ((inv k).walk.below start.args.a (there (inv k))) (child k)
-          (sym k.is_Tied.ensures ∙ not-true _ c.if-not-is_tied.true),
+          (sym k.is_tied.ensures ∙ c.if-not-is_tied.true),
     )
 
 -- it holds
 
 tied : (c : Else-not-is_tied) → is_tied (pool_of c.before) (start_of (head_of c.before)).args.a (child_of c.before) ≡ true
-tied c = sym c.is_Tied.ensures ∙ not-false _ c.if-not-is_tied.false
+tied c = sym c.is_tied.ensures ∙ c.if-not-is_tied.false
 
 room : (c : Else-not-is_tied) → (head_of c.before).loop-rest.to < capacity
 room c = walking_room (inv c.before) (child c.before) (tied c) (new c.before) (more c.before)
@@ -130,7 +130,7 @@ loop-rest-preserved c = let e = c.before.before in
 pub returns : goal.returns
 returns c = let head = c.before.before in
     let a = (start_of head).args in (
-      λ h. walking_ext (done_same (pool_of a.table.now) a.a a.j head.loop-rest.rest (sym c.is_empty.ensures ∙ not-false _ c.loop-rest-test.false)) head.loop-rest.invariant.0,
+      λ h. walking_ext (done_same (pool_of a.table.now) a.a a.j head.loop-rest.rest (sym c.is_empty.ensures ∙ c.loop-rest-test.false)) head.loop-rest.invariant.0,
       λ h. clash refl h,
     )
 

@@ -39,7 +39,7 @@ slot c = rw c.slots-n.ensures at c.loop-next-test.true
 
 pub loop-next-preserved-then-not-is_linked : goal.loop-next-preserved-then-not-is_linked
 loop-next-preserved-then-not-is_linked c = let turn = c.before.before in
-    survey_free turn.loop-next.invariant (slot turn) (sym c.is_linked.ensures ∙ not-true _ c.if-not-is_linked.true)
+    survey_free turn.loop-next.invariant (slot turn) (sym c.is_linked.ensures ∙ c.if-not-is_linked.true)
 
 -- it has links
 
@@ -47,7 +47,7 @@ abbrev turn_of : After-links → In-loop-next
 turn_of c = c.before.before.before
 
 linked : (c : After-links) → has_links (slot_at (pool_of (turn_of c).before) (turn_of c).loop-next.next) ≡ true
-linked c = sym c.is_linked.ensures ∙ not-false _ c.if-not-is_linked.false
+linked c = sym c.is_linked.ensures ∙ c.if-not-is_linked.false
 
 parents : (c : After-links) → c.links.result.now ≡ (slot_at (pool_of (turn_of c).before) (turn_of c).loop-next.next).parents
 parents c = c.links.ensures ∙ links_own (pool_of (turn_of c).before) Parents (turn_of c).loop-next.next (slot (turn_of c))

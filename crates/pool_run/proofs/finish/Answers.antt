@@ -20,14 +20,14 @@ write_last-printed-requires c = let called = c.before in
 pub returns-then-not-is_open : goal.returns-then-not-is_open
 returns-then-not-is_open c = let then = c.before in
     λ line words deltas marks.
-    stops c.stopped.ensures.0 c.stopped.ensures.1 (closed (sym then.is_open.ensures ∙ not-true _ then.if-not-is_open.true))
+    stops c.stopped.ensures.0 c.stopped.ensures.1 (closed (sym then.is_open.ensures ∙ then.if-not-is_open.true))
 
 pub returns : goal.returns
 returns c = let else = c.before in
     let wrote = else.before.before in
     let called = wrote.before.before in
     let told = called.requires in
-    let still = sym else.is_open.ensures ∙ not-false _ else.if-not-is_open.false in
+    let still = sym else.is_open.ensures ∙ else.if-not-is_open.false in
     λ line words deltas marks.
     stops c.stopped-2.ensures.0 c.stopped-2.ensures.1
     (ended (all_printed told (called.last_text-n.ensures told.pending told.kept) wrote.write_last-printed.ensures still))

@@ -54,7 +54,7 @@ take_in-at-requires c = let read = (chunk_read c).before.before.before.before in
 -- a write failed
 pub returns-then-not-is_open : goal.returns-then-not-is_open
 returns-then-not-is_open c = let then = c.before in
-    stops c.stopped-then-not-is_open.ensures.0 c.stopped-then-not-is_open.ensures.1 (closed (sym then.is_open.ensures ∙ not-true _ then.if-not-is_open.true))
+    stops c.stopped-then-not-is_open.ensures.0 c.stopped-then-not-is_open.ensures.1 (closed (sym then.is_open.ensures ∙ then.if-not-is_open.true))
 
 pub loop-turns-preserved : goal.loop-turns-preserved
 loop-turns-preserved c = let called = c.before.before.before in
@@ -63,7 +63,7 @@ loop-turns-preserved c = let called = c.before.before.before in
     let read = got.before.before in
     let gave = gave_bytes _ _ read.read-chunk.ensures got.more.given.1 in
     let begun = (head read).loop-turns in
-    let still = sym c.is_open.ensures ∙ not-false _ c.if-not-is_open.false in (
+    let still = sym c.is_open.ensures ∙ c.if-not-is_open.false in (
       one_turn begun.turns begun.input.reads begun.inv.0 read.before.before.loop-test.taken gave.2,
       further begun.inv.1 _ called.take_in-at.ensures still last.last.ensures (slice_bounds-chunk-end last) gave.3,
     )

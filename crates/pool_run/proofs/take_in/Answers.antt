@@ -31,12 +31,12 @@ loop-i-preserved c = let asked = c.before in
       λ input st.
           rw (next_byte input chunk head.loop-i.i more)
           (called.take_byte-at.ensures (input ++ take head.loop-i.i chunk) (head.loop-i.invariant.1 input st)
-          (sym asked.is_open.ensures ∙ not-false _ c.if-not-is_open.false)),
+          (sym asked.is_open.ensures ∙ c.if-not-is_open.false)),
     )
 
 -- an answer was not written
 pub returns-then-not-is_open : goal.returns-then-not-is_open
-returns-then-not-is_open c = λ input st e. clash e (sym c.is_open.ensures ∙ not-true _ c.if-not-is_open.true)
+returns-then-not-is_open c = λ input st e. clash e (sym c.is_open.ensures ∙ c.if-not-is_open.true)
 
 pub returns : goal.returns
 returns c = let head = c.before in

@@ -22,4 +22,4 @@ pub shape_of-out : goal.shape_of-out
 shape_of-out c = c.loop-k.invariant.0
 
 pub returns : goal.returns
-returns c = items_done (c.loop-k.invariant.1 r) c.loop-k-test.false
+returns c r = items_done (c.loop-k.invariant.1 r) c.loop-k-test.false

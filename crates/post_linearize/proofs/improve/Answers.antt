@@ -47,7 +47,7 @@ module _ (o : After-is_order) where
 
 pub returns-then-not-is_order : goal.returns-then-not-is_order
 returns-then-not-is_order c = let o = c.before.before in
-    refuses_keeps _ _ _ _ (stop (past_1 o) (ap not (sym (tested o) ∙ not-true _ c.if-not-is_order.true))) c.refused-then-not-is_order.ensures
+    refuses_keeps _ _ _ _ (stop (past_1 o) (ap not (sym (tested o) ∙ c.if-not-is_order.true))) c.refused-then-not-is_order.ensures
 
 pub returns : goal.returns
 returns c = let f = c.before.before.before in
@@ -56,7 +56,7 @@ returns c = let f = c.before.before.before in
     let o = x.before in
     let g = graph (new o) in
     let s = start (new o) in
-    let is = sym (tested o) ∙ not-false _ x.if-not-is_order.false in
+    let is = sym (tested o) ∙ x.if-not-is_order.false in
     succeeds_writes _ _ _ _ (all_past (past (past_1 o) (ap not is)) refl)
     c.wrote.ensures
     (passes _ _ _ _ _ _ (omega (arith, s.pre.0, s.pre.1.few, order_length _ _ is)) (ancestors_are g) (descendants_are g)

@@ -18,10 +18,10 @@ tested : (c : After-fee_in_range)
 tested c = c.fee_in_range.ensures ∙ ap in_range (to_z-of_z w64 _ (record { sfits = c.fee-1.given }))
 
 pub returns-then-not-fee_in_range : goal.returns-then-not-fee_in_range
-returns-then-not-fee_in_range c = let t = c.before in passed_stop t.loop-i.invariant t.loop-i-test.true (sym (tested t) ∙ not-true _ c.if-not-fee_in_range.true)
+returns-then-not-fee_in_range c = let t = c.before in passed_stop t.loop-i.invariant t.loop-i-test.true (sym (tested t) ∙ c.if-not-fee_in_range.true)
 
 pub loop-i-preserved : goal.loop-i-preserved
-loop-i-preserved c = let t = c.before in passed_more t.loop-i.invariant t.loop-i-test.true (sym (tested t) ∙ not-false _ c.if-not-fee_in_range.false)
+loop-i-preserved c = let t = c.before in passed_more t.loop-i.invariant t.loop-i-test.true (sym (tested t) ∙ c.if-not-fee_in_range.false)
 
 pub loop-i-init : goal.loop-i-init
 loop-i-init c = passed_none _

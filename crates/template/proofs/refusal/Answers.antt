@@ -7,24 +7,24 @@ use Rattle.template.proofs.Answers.{gives_12, gives_1, gives_1_too, gives_11, an
 use Rattle.template.proofs.refusal.Goals as goal
 
 pub returns-then-answer-eq-TABLE_ILL_FORMED : goal.returns-then-answer-eq-TABLE_ILL_FORMED
-returns-then-answer-eq-TABLE_ILL_FORMED c = c.if-answer-eq-TABLE_ILL_FORMED.true ∙ sym (gives_12 _ (settings ds _ terms) _ e c.if-answer-eq-TABLE_ILL_FORMED.true).answer
+returns-then-answer-eq-TABLE_ILL_FORMED c ds terms e = c.if-answer-eq-TABLE_ILL_FORMED.true ∙ sym (gives_12 _ (settings ds _ terms) _ e c.if-answer-eq-TABLE_ILL_FORMED.true).answer
 
 pub returns-then-answer-eq-LENGTHS_DIFFER : goal.returns-then-answer-eq-LENGTHS_DIFFER
-returns-then-answer-eq-LENGTHS_DIFFER c = c.if-answer-eq-LENGTHS_DIFFER.true ∙ sym (gives_1 _ (settings ds _ terms) _ e c.if-answer-eq-TABLE_ILL_FORMED.false c.if-answer-eq-LENGTHS_DIFFER.true).answer
+returns-then-answer-eq-LENGTHS_DIFFER c ds terms e = c.if-answer-eq-LENGTHS_DIFFER.true ∙ sym (gives_1 _ (settings ds _ terms) _ e c.if-answer-eq-TABLE_ILL_FORMED.false c.if-answer-eq-LENGTHS_DIFFER.true).answer
 
 pub returns-then-marks-slots : goal.returns-then-marks-slots
-returns-then-marks-slots c = let else2 = c.before.before in
+returns-then-marks-slots c ds terms e = let else2 = c.before.before in
     sym (gives_1_too _ (settings ds _ terms) _ e else2.if-answer-eq-TABLE_ILL_FORMED.false else2.if-answer-eq-LENGTHS_DIFFER.false
     (λ q. c.if-marks-slots.true (q ∙ sym c.slots.ensures))).answer
 
 pub returns-then-room-count_entries : goal.returns-then-room-count_entries
-returns-then-room-count_entries c = let else3 = c.before.before in
+returns-then-room-count_entries c ds terms e = let else3 = c.before.before in
     let else2 = else3.before.before in
     sym (gives_11 _ (settings ds _ terms) _ e else2.if-answer-eq-TABLE_ILL_FORMED.false else2.if-answer-eq-LENGTHS_DIFFER.false (else3.if-marks-slots.false ∙ else3.slots.ensures)
     (omega (arith, c.if-room-count_entries.true, c.count_entries.ensures))).answer
 
 pub returns : goal.returns
-returns c = let else3 = c.before.before in
+returns c ds terms e = let else3 = c.before.before in
     let else2 = else3.before.before in
     answer_rest _ (settings ds _ terms) _ e else2.if-answer-eq-TABLE_ILL_FORMED.false else2.if-answer-eq-LENGTHS_DIFFER.false (else3.if-marks-slots.false ∙ else3.slots.ensures)
     (omega (arith, c.if-room-count_entries.false, c.count_entries.ensures))

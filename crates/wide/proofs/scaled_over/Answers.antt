@@ -2,7 +2,7 @@ use Rattle.std.proofs.Common.{◌-◌, ◌<◌, ⊎_elim, mod-lt, pos_of_ne-zero
 use native.Mathlib.Nat.{div-zero}
 use Rattle.wide.proofs.Quotient.{Passed, none_passed, rest_below, twice_below, bits_small, bit_0, bit_1, all_passed}
 use Rattle.wide.proofs.scaled_over.Goals as goal
-use Rattle.wide.proofs.scaled_over.Goals.{After-sum_below-rest, Else-size-eq0}
+use Rattle.wide.proofs.scaled_over.Goals.{After-sum_below-rest, Else-size-eq0, then-bits-eq1, else-bits-eq1}
 
 -- the size is above zero
 some : (e : Else-size-eq0) → 0 < e.args.size
@@ -41,10 +41,10 @@ loop-k-preserved c = let loop = c.before.before.before.before in
     let less = c.loop-k-test.true in
     let q = c.plus-quotient.ensures in
     let r = c.sum_below-rest.ensures in
-    ⊎_elim
-    (λ w. rw (w.3, w.4) (bit_1 loop.loop-k.invariant (some loop.before) less w.0.taken q r w.1.ensures w.2.ensures))
-    (λ w. rw (w.1, w.2) (bit_0 loop.loop-k.invariant (some loop.before) less w.0.left q r))
-    c.if-bits-eq1.branch
+    elim c.if-bits-eq1.branch [
+      | then-bits-eq1 w ↦ rw (w.quotient-is, w.rest-is) (bit_1 loop.loop-k.invariant (some loop.before) less w.if-bits-eq1.true q r w.plus-quotient-then-bits-eq1.ensures w.sum_below-rest-then-bits-eq1.ensures)
+      | else-bits-eq1 w ↦ rw (w.quotient-is, w.rest-is) (bit_0 loop.loop-k.invariant (some loop.before) less w.if-bits-eq1.false q r)
+    ]
 
 pub returns-then-size-eq0 : goal.returns-then-size-eq0
 returns-then-size-eq0 c = rw (c.if-size-eq0.true, div-zero)

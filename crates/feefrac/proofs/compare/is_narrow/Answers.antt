@@ -15,7 +15,7 @@ never : {A : Type 0} → false ≡ true → A
 never e = absurd (let z : ◌≡◌ {A = ℕ} 0 1 = cc in omega arith)
 
 pub returns : goal.returns
-returns c = let fee = c.args.a.fee in
+returns c e = let fee = c.args.a.fee in
     let h : SFits w64 fee = search rules in
     record {
       fee =

@@ -29,7 +29,7 @@ stopped : (c : Joined-below-eq0)
 stopped c =
     ⊎_elim
     (λ w. rw w.1 (at_bottom w.0.taken))
-    (λ w. rw w.6 (at_top _ w.3.ensures (search rules) (sym w.4.ensures ∙ not-true _ w.5.taken)))
+    (λ w. rw w.6 (at_top _ w.3.ensures (search rules) (sym w.4.ensures ∙ w.5.taken)))
     c.if-below-eq0.branch
 
 pub loop-count-init : goal.loop-count-init
@@ -60,7 +60,7 @@ loop-count-preserved-then-overlaps c = let then = c.before.before.before.before.
       inner_merge loop.loop2.inv.1
           (outer_next (head loop).loop-k.inv.1 (head loop).loop-k-test.true) (search rules) read.at-prev.ensures
           c.bring.ensures
-          (sym rate.higher_rate.ensures ∙ not-false _ rate.if-not-higher_rate.false) (sym then.overlaps.ensures ∙ then.if-overlaps.true)
+          (sym rate.higher_rate.ensures ∙ rate.if-not-higher_rate.false) (sym then.overlaps.ensures ∙ then.if-overlaps.true)
           c.absorb_before-cur.ensures,
     )
 
@@ -77,7 +77,7 @@ loop-count-preserved c = let put = c.before.before.before.before in
       shelf_kept _ _ shelf kept.words_after kept.fees_after,
       inner_step loop.loop2.inv.1
           (outer_next (head loop).loop-k.inv.1 (head loop).loop-k-test.true) (search rules) read.at-prev.ensures
-          (sym rate.higher_rate.ensures ∙ not-false _ rate.if-not-higher_rate.false) (sym else.overlaps.ensures ∙ else.if-overlaps.false)
+          (sym rate.higher_rate.ensures ∙ rate.if-not-higher_rate.false) (sym else.overlaps.ensures ∙ else.if-overlaps.false)
           (shelf_stored _ _ shelf kept.words_after kept.fees_after (omega (arith, loop.loop2.inv.1))),
     )
 

@@ -27,7 +27,7 @@ returns-then-not-delta_in_range c = let t = c.before in
     let o = t.before.before.before in
     fine_bad o.loop-s.invariant (search rules)
     (sym o.is_occupied.ensures ∙ t.if-is_occupied.true)
-    (sym (tested t) ∙ not-true _ c.if-not-delta_in_range.true)
+    (sym (tested t) ∙ c.if-not-delta_in_range.true)
 
 pub loop-s-preserved : goal.loop-s-preserved
 loop-s-preserved c = let o = c.before in
@@ -36,7 +36,7 @@ loop-s-preserved c = let o = c.before in
     (λ w.
     let t : After-delta_in_range =
     record { before = record { before = record { before = o; if1 = w.0 }; delta = w.1 }; delta-in-range = w.2 } in
-    fine_in inv (search rules) (sym (tested t) ∙ not-false _ w.3.left))
+    fine_in inv (search rules) (sym (tested t) ∙ w.3.left))
     (λ w. fine_free inv (search rules) (sym o.is_occupied.ensures ∙ w.left))
     c.if-is_occupied.branch
 

@@ -18,7 +18,7 @@ loop-left-init c = let found = c.before in
     ((search rules), (λ i e. found.requires i (sym (found.parent_slots-left.ensures i) ∙ e)), ranking_start positions _ _ _ c.empty-set.ensures)
 
 pub returns-then-a-ge-CAPACITY : goal.returns-then-a-ge-CAPACITY
-returns-then-a-ge-CAPACITY c = let found = c.before.before.before.before.before in
+returns-then-a-ge-CAPACITY c i = let found = c.before.before.before.before.before in
     ranking_done c.loop-left.invariant.2 c.lowest-a.result c.lowest-a.ensures c.if-a-ge-CAPACITY.true i
     ∙ ap (λ (b : Bool). is_position i && b) (rank_ext _ _ _ i found.parent_slots-left.ensures)
 

@@ -99,8 +99,8 @@ module _ (t : ℕ) where
 
   -- ---- nothing to do
 
-  returns : own-lts.Need-returns (claims t) (own_at t) own.Post invariant_loop decreases_loop
-  returns c =
+  returns_lem : own-lts.Need-returns (claims t) (own_at t) own.Post invariant_loop decreases_loop
+  returns_lem c =
       let start = tested_start c.before in
       collect_none start.pre.1.1.0 start.args.s (sym c.contains.ensures ∙ c.if-contains.true)
 
@@ -123,7 +123,7 @@ module _ (t : ℕ) where
       let start = loop_start (lowest_loop c) in member_at start.args.members.now start.args.firsts.now start.args.s c.lowest-j.result
 
   left : (c : Lowest) → is_empty (lowest_loop c).loop-left.false ≡ false
-  left c = sym c.is_empty.ensures ∙ not-true _ c.loop-left-test.true
+  left c = sym c.is_empty.ensures ∙ c.loop-left-test.true
 
   within : (c : Lowest)
       → get_or (loop_start (lowest_loop c)).args.firsts.now (loop_start (lowest_loop c)).args.s 0 + c.lowest-j.result
@@ -174,7 +174,7 @@ module _ (t : ℕ) where
   over_loop c = c.before.before
 
   passed : (c : Over) → is_empty (over_loop c).loop-left.false ≡ true
-  passed c = sym c.is_empty.ensures ∙ not-false _ c.loop-left-test.false
+  passed c = sym c.is_empty.ensures ∙ c.loop-left-test.false
 
   new : (c : Loop) → has_in (loop_start c).args.taken.now (loop_start c).args.s ≡ false
   new c = sym (loop_tested c).contains.ensures ∙ c.if-contains.false

@@ -11,12 +11,12 @@ use Rattle.template.proofs.tests.all_taken.Goals as goal
 pub returns-then-not-contains : goal.returns-then-not-contains
 returns-then-not-contains c = let turn = c.before.before.before in
     let loop = turn.loop-i in
-    all_no _ _ loop.i loop.invariant turn.loop-i-test.true (sym c.contains.ensures ∙ not-true _ c.if-not-contains.true)
+    all_no _ _ loop.i loop.invariant turn.loop-i-test.true (sym c.contains.ensures ∙ c.if-not-contains.true)
 
 pub loop-i-preserved : goal.loop-i-preserved
 loop-i-preserved c = let turn = c.before.before.before in
     let loop = turn.loop-i in
-    all_so_far _ _ loop.i loop.invariant turn.loop-i-test.true (sym c.contains.ensures ∙ not-false _ c.if-not-contains.false)
+    all_so_far _ _ loop.i loop.invariant turn.loop-i-test.true (sym c.contains.ensures ∙ c.if-not-contains.false)
 
 pub loop-i-init : goal.loop-i-init
 loop-i-init c = refl

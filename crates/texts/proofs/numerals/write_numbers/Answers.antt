@@ -40,4 +40,4 @@ pub each_number-requires : goal.each_number-requires
 each_number-requires c = room c.before
 
 pub returns : goal.returns
-returns c = put (room c.before.before.before.before) c.Each-number.ensures
+returns c = put (room c.before.before.before.before) c.each_number.ensures

@@ -13,7 +13,7 @@ pub loop-self-init : goal.loop-self-init
 loop-self-init c = join_start _ _ _
 
 left : (c : In-loop-self) → is_empty c.loop-self.rest ≡ false
-left c = sym c.is_empty.ensures ∙ not-true _ c.loop-self-test.true
+left c = sym c.is_empty.ensures ∙ c.loop-self-test.true
 
 pub loop-self-smaller : goal.loop-self-smaller
 loop-self-smaller c = let walk = c.before.before.before.before.before.before.before in
@@ -39,4 +39,4 @@ pub shape_of-sets : goal.shape_of-sets
 shape_of-sets c = c.loop-self.invariant.same
 
 pub returns : goal.returns
-returns c = join_done (sym c.is_empty.ensures ∙ not-false _ c.loop-self-test.false) c.loop-self.invariant
+returns c = join_done (sym c.is_empty.ensures ∙ c.loop-self-test.false) c.loop-self.invariant
