@@ -13,57 +13,48 @@ use Rattle.wide.specs.Words.{value}
 use Rattle.feefrac.proofs.Signed.{Lt, Le, less, not_less, zero_fits}
 use Rattle.feefrac.proofs.Order.{size_above, size_below, size_same, both_up, both_down, up_down, down_up}
 use Rattle.feefrac.proofs.compare.compare_wide.Goals as goal
-use Rattle.feefrac.proofs.compare.compare_wide.Goals.{After-product-then-af-lt0-2, After-product-then-bf-lt0-2-2, After-struct_told-2-1, Else-af-lt0, Start, Then-af-lt0}
+use Rattle.feefrac.proofs.compare.compare_wide.Goals.{After-product-then-af-lt0-2, After-product-then-bf-lt0-2-2, Start, Else-af-lt0, Then-af-lt0}
 
 -- the fees are numbers of their type
-module _ (p : After-struct_told-2-1) where
-  abbrev start : Start
-  start = p.before.before
-
-  fits_a : SFits w64 start.args.a.fee
+module _ (p : Start) where
+  fits_a : SFits w64 p.args.a.fee
   fits_a = search rules
 
-  fits_b : SFits w64 start.args.b.fee
+  fits_b : SFits w64 p.args.b.fee
   fits_b = search rules
 
 -- a product of a fee that was read
 read : {z : ℤ} {v : ℕ} (k : ℕ) → SFits w64 z → v ≡ nat_abs (to_z w64 (of_z w64 z)) * k → v ≡ nat_abs z * k
 read k h e = e ∙ ap (λ (y : ℤ). nat_abs y * k) (to_z-of_z h)
 
-a_negative : (t : Then-af-lt0) → Lt (start t.before).args.a.fee (pos 0)
-a_negative t = less (fits_a t.before) zero_fits t.if-af-lt0.true
-
-a_positive : (t : Else-af-lt0) → Le (pos 0) (start t.before).args.a.fee
-a_positive t = not_less (fits_a t.before) zero_fits t.if-af-lt0.false
-
 pub returns-then-bf-lt0 : goal.returns-then-bf-lt0
 returns-then-bf-lt0 c = let t = c.before.before.before in
     let p = t.before.before in
-    let s = (start p).args in
+    let s = p.args in
     c.compare_words.ensures
     ∙ sym
     (both_down s.a s.b (value c.product-then-bf-lt0.result) (value c.product.result)
-    (read s.b.size (fits_a p) c.product-then-bf-lt0.ensures) (read s.a.size (fits_b p) c.product.ensures)
-    (a_negative t.before) (less (fits_b p) zero_fits t.if-bf-lt0.true))
+    (read s.b.size (fits_a p.before.before) c.product-then-bf-lt0.ensures) (read s.a.size (fits_b p.before.before) c.product.ensures)
+    (less (fits_a p.before.before) zero_fits t.if-af-lt0.true) (less (fits_b p.before.before) zero_fits t.if-bf-lt0.true))
 
 -- a negative fee against one that is not, and the other way round
-is_lower : (c : After-product-then-af-lt0-2) → let s = (start c.before.before.before.before).args in
+is_lower : (c : After-product-then-af-lt0-2) → let s = c.before.before.before.before.args in
     rate_order s.a s.b ≡ size_order 0 (value c.product-then-af-lt0.result + value c.product-then-af-lt0-2.result)
 is_lower c =
     let t = c.before.before in
     let p = t.before.before in
-    let s = (start p).args in
-    down_up s.a s.b _ _ (read s.b.size (fits_a p) c.product-then-af-lt0.ensures) (read s.a.size (fits_b p) c.product-then-af-lt0-2.ensures)
-    (a_negative t.before) (not_less (fits_b p) zero_fits t.if-bf-lt0.false)
+    let s = p.args in
+    down_up s.a s.b _ _ (read s.b.size (fits_a p.before.before) c.product-then-af-lt0.ensures) (read s.a.size (fits_b p.before.before) c.product-then-af-lt0-2.ensures)
+    (less (fits_a p.before.before) zero_fits t.if-af-lt0.true) (not_less (fits_b p.before.before) zero_fits t.if-bf-lt0.false)
 
-is_upper : (c : After-product-then-bf-lt0-2-2) → let s = (start c.before.before.before.before).args in
+is_upper : (c : After-product-then-bf-lt0-2-2) → let s = c.before.before.before.before.args in
     rate_order s.a s.b ≡ size_order (value c.product-then-bf-lt0-2.result + value c.product-then-bf-lt0-2-2.result) 0
 is_upper c =
     let t = c.before.before in
     let p = t.before.before in
-    let s = (start p).args in
-    up_down s.a s.b _ _ (read s.b.size (fits_a p) c.product-then-bf-lt0-2.ensures) (read s.a.size (fits_b p) c.product-then-bf-lt0-2-2.ensures)
-    (a_positive t.before) (less (fits_b p) zero_fits t.if-bf-lt0-2.true)
+    let s = p.args in
+    up_down s.a s.b _ _ (read s.b.size (fits_a p.before.before) c.product-then-bf-lt0-2.ensures) (read s.a.size (fits_b p.before.before) c.product-then-bf-lt0-2-2.ensures)
+    (not_less (fits_a p.before.before) zero_fits t.if-af-lt0.false) (less (fits_b p.before.before) zero_fits t.if-bf-lt0-2.true)
 
 pub returns-then-both_zero : goal.returns-then-both_zero
 returns-then-both_zero c = let p = c.before.before in
@@ -84,9 +75,9 @@ returns-then-bf-lt0-2 c = sym (is_upper c.before.before ∙ size_above (pos_of_n
 pub returns : goal.returns
 returns c = let t = c.before.before.before in
     let p = t.before.before in
-    let s = (start p).args in
+    let s = p.args in
     c.compare_words-2.ensures
     ∙ sym
     (both_up s.a s.b (value c.product-2.result) (value c.product-3.result)
-    (read s.b.size (fits_a p) c.product-2.ensures) (read s.a.size (fits_b p) c.product-3.ensures)
-    (a_positive t.before) (not_less (fits_b p) zero_fits t.if-bf-lt0-2.false))
+    (read s.b.size (fits_a p.before.before) c.product-2.ensures) (read s.a.size (fits_b p.before.before) c.product-3.ensures)
+    (not_less (fits_a p.before.before) zero_fits t.if-af-lt0.false) (not_less (fits_b p.before.before) zero_fits t.if-bf-lt0-2.false))

@@ -15,26 +15,26 @@ module _ (c : Then-b-ge0) where
   grows : Le (pos 0) c.args.b
   grows = most zero_fits c.ranges.b c.if-b-ge0.true
 
-  overflow_sub-b : SFits w64 (top -ℤ Z c.args.b)
-  overflow_sub-b = room_up (step c.ranges.b) (rest top c.ranges.b) grows
+  sub_fits : SFits w64 (top -ℤ Z c.args.b)
+  sub_fits = room_up (step c.ranges.b) (rest top c.ranges.b) grows
 
 -- b is negative
 module _ (c : Else-b-ge0) where
   falls : Le c.args.b (pos 0)
   falls = le_of_lt (not_most zero_fits c.ranges.b c.if-b-ge0.false)
 
-  overflow_sub-b-2 : SFits w64 (bottom -ℤ Z c.args.b)
-  overflow_sub-b-2 = room_down (step c.ranges.b) (rest bottom c.ranges.b) falls
+  sub_fits_2 : SFits w64 (bottom -ℤ Z c.args.b)
+  sub_fits_2 = room_down (step c.ranges.b) (rest bottom c.ranges.b) falls
 
 fits : (c : Then-a-b) → SFits w64 (c.args.a +ℤ c.args.b)
 fits c =
     let s = c.before.before in
-    fits_up (sum _ _) (rest top s.ranges.b) s.ranges.a (grows c.before) (most s.ranges.a (overflow_sub-b c.before) c.if-a-b.true)
+    fits_up (sum _ _) (rest top s.ranges.b) s.ranges.a (grows c.before) (most s.ranges.a (sub_fits c.before) c.if-a-b.true)
 
 fits_2 : (c : Then-b-a) → SFits w64 (c.args.a +ℤ c.args.b)
 fits_2 c =
     let s = c.before.before in
-    fits_down (sum _ _) (rest bottom s.ranges.b) s.ranges.a (falls c.before) (most (overflow_sub-b-2 c.before) s.ranges.a c.if-b-a.true)
+    fits_down (sum _ _) (rest bottom s.ranges.b) s.ranges.a (falls c.before) (most (sub_fits_2 c.before) s.ranges.a c.if-b-a.true)
 
 pub overflow_add-result : goal.overflow_add-result
 overflow_add-result c = rw (to_z-of_z c.ranges.a, to_z-of_z c.ranges.b) (fits c)
@@ -44,7 +44,7 @@ returns-then-a-b c = rw (to_z-of_z c.ranges.a, to_z-of_z c.ranges.b, to_z-of_z (
 
 pub returns-then-b-ge0 : goal.returns-then-b-ge0
 returns-then-b-ge0 c = let s = c.before.before in
-    sym (held_up (sum s.args.a s.args.b) (rest top s.ranges.b) (not_most s.ranges.a (overflow_sub-b c.before) c.if-a-b.false))
+    sym (held_up (sum s.args.a s.args.b) (rest top s.ranges.b) (not_most s.ranges.a (sub_fits c.before) c.if-a-b.false))
 
 pub overflow_add-result-then-b-a : goal.overflow_add-result-then-b-a
 overflow_add-result-then-b-a c = rw (to_z-of_z c.ranges.a, to_z-of_z c.ranges.b) (fits_2 c)
@@ -54,10 +54,10 @@ returns-then-b-a c = rw (to_z-of_z c.ranges.a, to_z-of_z c.ranges.b, to_z-of_z (
 
 pub returns : goal.returns
 returns c = let s = c.before.before in
-    sym (held_down (sum s.args.a s.args.b) (rest bottom s.ranges.b) (not_most (overflow_sub-b-2 c.before) s.ranges.a c.if-b-a.false))
+    sym (held_down (sum s.args.a s.args.b) (rest bottom s.ranges.b) (not_most (sub_fits_2 c.before) s.ranges.a c.if-b-a.false))
 
 pub overflow_sub-b : goal.overflow_sub-b
-overflow_sub-b c = overflow_sub-b c
+overflow_sub-b c = sub_fits c
 
 pub overflow_sub-b-2 : goal.overflow_sub-b-2
-overflow_sub-b-2 c = overflow_sub-b-2 c
+overflow_sub-b-2 c = sub_fits_2 c

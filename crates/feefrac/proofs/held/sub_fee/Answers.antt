@@ -15,26 +15,26 @@ module _ (c : Then-b-ge0) where
   falls : Le (neg_ℤ c.args.b) (pos 0)
   falls = turned (pos 0) c.args.b (most zero_fits c.ranges.b c.if-b-ge0.true)
 
-  overflow_add-b : SFits w64 (bottom +ℤ Z c.args.b)
-  overflow_add-b = room_down (step_neg c.ranges.b) (rest_neg bottom c.ranges.b) falls
+  add_fits : SFits w64 (bottom +ℤ Z c.args.b)
+  add_fits = room_down (step_neg c.ranges.b) (rest_neg bottom c.ranges.b) falls
 
 -- b is negative
 module _ (c : Else-b-ge0) where
   grows : Le (pos 0) (neg_ℤ c.args.b)
   grows = turned c.args.b (pos 0) (le_of_lt (not_most zero_fits c.ranges.b c.if-b-ge0.false))
 
-  overflow_add-b-2 : SFits w64 (top +ℤ Z c.args.b)
-  overflow_add-b-2 = room_up (step_neg c.ranges.b) (rest_neg top c.ranges.b) grows
+  add_fits_2 : SFits w64 (top +ℤ Z c.args.b)
+  add_fits_2 = room_up (step_neg c.ranges.b) (rest_neg top c.ranges.b) grows
 
 fits : (c : Then-b-a) → SFits w64 (c.args.a -ℤ c.args.b)
 fits c =
     let s = c.before.before in
-    fits_down (sum _ _) (rest_neg bottom s.ranges.b) s.ranges.a (falls c.before) (most (overflow_add-b c.before) s.ranges.a c.if-b-a.true)
+    fits_down (sum _ _) (rest_neg bottom s.ranges.b) s.ranges.a (falls c.before) (most (add_fits c.before) s.ranges.a c.if-b-a.true)
 
 fits_2 : (c : Then-a-b) → SFits w64 (c.args.a -ℤ c.args.b)
 fits_2 c =
     let s = c.before.before in
-    fits_up (sum _ _) (rest_neg top s.ranges.b) s.ranges.a (grows c.before) (most s.ranges.a (overflow_add-b-2 c.before) c.if-a-b.true)
+    fits_up (sum _ _) (rest_neg top s.ranges.b) s.ranges.a (grows c.before) (most s.ranges.a (add_fits_2 c.before) c.if-a-b.true)
 
 pub overflow_sub-result : goal.overflow_sub-result
 overflow_sub-result c = rw (to_z-of_z c.ranges.a, to_z-of_z c.ranges.b) (fits c)
@@ -44,7 +44,7 @@ returns-then-b-a c = rw (to_z-of_z c.ranges.a, to_z-of_z c.ranges.b, to_z-of_z (
 
 pub returns-then-b-ge0 : goal.returns-then-b-ge0
 returns-then-b-ge0 c = let s = c.before.before in
-    sym (held_down (sum s.args.a (neg_ℤ s.args.b)) (rest_neg bottom s.ranges.b) (not_most (overflow_add-b c.before) s.ranges.a c.if-b-a.false))
+    sym (held_down (sum s.args.a (neg_ℤ s.args.b)) (rest_neg bottom s.ranges.b) (not_most (add_fits c.before) s.ranges.a c.if-b-a.false))
 
 pub overflow_sub-result-then-a-b : goal.overflow_sub-result-then-a-b
 overflow_sub-result-then-a-b c = rw (to_z-of_z c.ranges.a, to_z-of_z c.ranges.b) (fits_2 c)
@@ -54,10 +54,10 @@ returns-then-a-b c = rw (to_z-of_z c.ranges.a, to_z-of_z c.ranges.b, to_z-of_z (
 
 pub returns : goal.returns
 returns c = let s = c.before.before in
-    sym (held_up (sum s.args.a (neg_ℤ s.args.b)) (rest_neg top s.ranges.b) (not_most s.ranges.a (overflow_add-b-2 c.before) c.if-a-b.false))
+    sym (held_up (sum s.args.a (neg_ℤ s.args.b)) (rest_neg top s.ranges.b) (not_most s.ranges.a (add_fits_2 c.before) c.if-a-b.false))
 
 pub overflow_add-b : goal.overflow_add-b
-overflow_add-b c = overflow_add-b c
+overflow_add-b c = add_fits c
 
 pub overflow_add-b-2 : goal.overflow_add-b-2
-overflow_add-b-2 c = overflow_add-b-2 c
+overflow_add-b-2 c = add_fits_2 c
