@@ -46,4 +46,4 @@ returns c = let e = c.before.before.before.before.before.before.before.before in
     let q = c.remove-2 in
     unlinked_both a.table.now p.new.set a.s r a.b p.ensures.set_len_unchanged q.new.set p.ensures.by_index
     (λ j. (c.slice_known-2-1.given j).fits) q.ensures.set_len_unchanged q.ensures.by_index
-    (λ j. (c.slice_known-3-1.given j).fits)
+    (λ j. (c.type_inv.table j).fits)
