@@ -23,9 +23,9 @@ use Rattle.pool_table.specs.Words.{header, row, row_at, parents_at, children_at,
 use Rattle.pool_table.specs.Changes.{changed, with_entry, with_link, unlinked, with_total, free_slots, made, Becomes}
 use Rattle.pool_table.proofs.Parts.{part_take}
 use Rattle.pool_table.proofs.Puts.{back, Put, put_part, put_there, put_else}
-use Rattle.pool_table.proofs.Theorems.{Wholes, legal_long, pool_table}
+use Rattle.pool_table.proofs.Theorems.{legal_long, pool_table}
 use Rattle.pool_table.proofs.Pools.{whole_made, pool_ext, changed_count, changed_here, changed_else, changed_past}
-use Rattle.pool_table.proofs.Rows.{Whole, slot_count_lem, slot_at_lem, row_within, word_at, slot_is, slot_same, txid_is, entry_is, entry_words_lem, whole_row, whole_free, free_zeros, length_entry, side_end}
+use Rattle.pool_table.proofs.Rows.{slot_count_lem, slot_at_lem, row_within, word_at, slot_is, slot_same, txid_is, entry_is, entry_words_lem, whole_row, whole_free, free_zeros, length_entry, side_end}
 
 -- ---- a table that stays
 

@@ -1,5 +1,4 @@
 use mathlib.Core.Path.{sym, ap, ◌∙◌}
-use borrow.Author.Rules.{rules}
 use Rattle.pool_table.specs.Ranges.{entry_in_range}
 use Rattle.pool_scan.proofs.Scan.{taken, untaken}
 use Rattle.pool_scan.proofs.row_stands.Goals as goal

@@ -1,12 +1,9 @@
-use mathlib.Core.Path.{◌≡◌, refl}
+use mathlib.Core.Path.{◌≡◌}
 use mathlib.Core.Bool.{◌&&◌}
 use Prim.Native.Nat.{◌≤◌, ◌-◌}
-use native.Mathlib.Omega.{arith}
 use lib.Dec.{eqb}
-use lib.ListN.{length, get_or, drop}
-use borrow.Author.Rules.{rules}
+use lib.ListN.{length, drop}
 use Rattle.lists.specs.Lists.{all_of}
-use Rattle.pool_table.proofs.Zeroed.{zeroed_more, zeroed_all}
 use Rattle.pool_table.proofs.are_zero.Given as goal
 
 abbrev pub invariant-loop-k : goal.invariant-loop-k

@@ -1,10 +1,7 @@
-use mathlib.Core.Path.{◌≡◌, refl, ap, ◌∙◌}
-use mathlib.Core.List.{List, ◌++◌}
-use Prim.Native.Nat.{ℕ, ◌≤◌, ◌-◌}
-use native.Mathlib.Omega.{arith}
-use lib.ListN.{length, drop, set, replicate}
-use borrow.Author.Rules.{rules}
-use Rattle.pool_table.proofs.Zeroed.{cleared_more, cleared_all}
+use mathlib.Core.Path.{◌≡◌}
+use mathlib.Core.List.{◌++◌}
+use Prim.Native.Nat.{◌≤◌, ◌-◌}
+use lib.ListN.{length, drop, replicate}
 use Rattle.pool_table.proofs.clear.Given as goal
 
 abbrev pub invariant-loop-i : goal.invariant-loop-i

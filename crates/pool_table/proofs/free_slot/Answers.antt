@@ -1,5 +1,4 @@
 use native.Mathlib.Omega.{arith}
-use borrow.Author.Rules.{rules}
 use Rattle.pool_table.specs.Pool.{free}
 use Rattle.pool_table.proofs.Changes.{row_there, row_none, row_end, freed}
 use Rattle.pool_table.proofs.free_slot.Goals as goal
@@ -23,4 +22,4 @@ slice_bounds-clear-end c = let a = c.args in
 pub returns : goal.returns
 returns c = let a = c.args in
     let r = row_there a.table.now a.s c.row_of-at.ensures c.if-at-eq0.false in
-    freed a.table.now c.clear.new.0 a.s r c.clear.ensures
+    freed a.table.now c.clear.new.words a.s r c.clear.ensures

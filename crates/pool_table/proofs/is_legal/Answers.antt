@@ -3,7 +3,6 @@ use mathlib.Core.Bool.{and-false, and-true}
 use native.Mathlib.Omega.{arith}
 use lib.ListN.{length}
 use borrow.Author.Tests.{lt-leb, le-leb}
-use borrow.Author.Rules.{rules}
 use Rattle.slotsets.specs.SlotSets.{capacity}
 use Rattle.pool_table.specs.Words.{slots_in, is_legal}
 use Rattle.pool_table.proofs.Rows.{slot_count_lem}

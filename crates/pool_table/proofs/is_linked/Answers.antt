@@ -1,12 +1,8 @@
 use mathlib.Core.Path.{sym, ap, ◌∙◌}
 use mathlib.Core.Bool.{not}
-use mathlib.Core.List.{List, ◌++◌}
-use Prim.Native.Nat.{ℕ}
 use native.Mathlib.Omega.{arith}
 use lib.Dec.{eqb}
-use borrow.Author.Rules.{rules}
 use Rattle.lists.specs.Lists.{all_of}
-use Rattle.pool_table.specs.Pool.{Slot}
 use Rattle.pool_table.specs.Words.{pool_of}
 use Rattle.pool_table.specs.Links.{has_links}
 use Rattle.pool_table.proofs.Rows.{slot_past, row_links, free_unlinked}

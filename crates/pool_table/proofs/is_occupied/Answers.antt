@@ -1,7 +1,6 @@
 use mathlib.Core.Bool.{Bool, not}
 use mathlib.Core.Path.{ap}
 use lib.Dec.{eqb}
-use borrow.Author.Rules.{rules}
 use Rattle.weights.specs.declared.RawWeight.{RawWeight}
 use Rattle.pool_table.specs.Pool.{is_occupied}
 use Rattle.pool_table.proofs.is_occupied.Goals as goal

@@ -1,9 +1,6 @@
 use mathlib.Core.Path.{sym, ap, ◌∙◌}
-use mathlib.Core.List.{List}
-use Prim.Native.Nat.{ℕ}
 use native.Mathlib.Omega.{arith}
 use lib.Dec.{eqb}
-use borrow.Author.Rules.{rules}
 use Rattle.lists.specs.Lists.{all_of}
 use Rattle.pool_table.specs.Pool.{Slot}
 use Rattle.pool_table.specs.Words.{slot_words, pool_of}

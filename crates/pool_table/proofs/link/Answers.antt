@@ -1,5 +1,4 @@
 use native.Mathlib.Omega.{arith}
-use borrow.Author.Rules.{rules}
 use Rattle.pool_table.specs.Changes.{with_link}
 use Rattle.pool_table.proofs.Rows.{side_end}
 use Rattle.pool_table.proofs.Changes.{row_there, row_none, row_end, linked}
@@ -34,5 +33,5 @@ returns c = let e = c.before.before.before.before.before in
     let a = c.args in
     let r = row_there a.table.now a.s e.row_of-at.ensures e.if-at-eq0.false in
     let i = c.insert in
-    linked a.table.now i.new.0 a.s r a.side a.b c.offset.result
-    c.offset.ensures i.ensures.set_len_unchanged i.ensures.by_index (λ j. (c.slice_known-2-1.given j).fits)
+    linked a.table.now i.new.set a.s r a.side a.b c.offset.result
+    c.offset.ensures i.ensures.set_len_unchanged i.ensures.by_index (λ j. (c.type_inv.table j).fits)

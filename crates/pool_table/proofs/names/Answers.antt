@@ -1,6 +1,5 @@
 use mathlib.Core.Path.{ap, ◌∙◌}
 use Prim.Native.Nat.{ℕ, ◌%◌}
-use borrow.Author.Rules.{rules}
 use Rattle.txset.specs.Sets.{has, has_in}
 use Rattle.txset.proofs.Bits.{has_shift}
 use Rattle.pool_table.proofs.names.Goals as goal

@@ -1,11 +1,9 @@
 use mathlib.Core.Path.{◌≡◌, ap, ◌∙◌}
-use mathlib.Core.List.{List}
-use Prim.Native.Nat.{ℕ, ◌+◌, ◌-◌, ◌≤◌, ◌<◌}
+use Prim.Native.Nat.{ℕ, ◌+◌, ◌-◌, ◌≤◌}
 use native.Mathlib.Omega.{arith}
 use lib.Dec.{lit<}
 use lib.ListN.{length, take, drop}
-use borrow.Author.Rules.{rules}
-use Rattle.pool_table.specs.Words.{row, row_at}
+use Rattle.pool_table.specs.Words.{row_at}
 use Rattle.pool_table.proofs.Rows.{row_within}
 use Rattle.pool_table.proofs.Parts.{part_take}
 use Rattle.pool_table.proofs.part.Goals as goal
@@ -19,7 +17,7 @@ pub returns : goal.returns
 returns c = let a = c.args in
     let from : ℕ = row_at a.s + a.k in
     let e : from + a.len - from ≡ a.len = omega arith in
-    ap (λ (n : ℕ). take n (drop from a.table.now)) e ∙ part_take a.table.now a.len from (ends c.before)
+    ap (λ (n : ℕ). take n (drop from a.table.now)) e ∙ part_take a.table.now a.len from (ends (goal.at.returns c).Start)
 
 pub overflow_mul-from : goal.overflow_mul-from
 overflow_mul-from c = omega (arith, ends c)

@@ -1,5 +1,4 @@
 use native.Mathlib.Omega.{arith}
-use borrow.Author.Rules.{rules}
 use Rattle.pool_table.specs.Changes.{with_entry}
 use Rattle.pool_table.proofs.Changes.{row_there, row_none, row_end, entered}
 use Rattle.pool_table.proofs.put_entry.Goals as goal
@@ -23,4 +22,4 @@ slice_bounds-write_entry-end c = let a = c.args in
 pub returns : goal.returns
 returns c = let a = c.args in
     let r = row_there a.table.now a.s c.row_of-at.ensures c.if-at-eq0.false in
-    entered a.table.now c.write_entry.new.0 a.s r a.e c.write_entry.ensures
+    entered a.table.now c.write_entry.new.words a.s r a.e c.write_entry.ensures

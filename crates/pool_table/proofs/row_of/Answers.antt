@@ -3,8 +3,7 @@ use mathlib.Core.Bool.{true, false, and-false}
 use native.Mathlib.Omega.{arith}
 use lib.Dec.{lit<}
 use lib.ListN.{length}
-use borrow.Author.Tests.{lt-ltb, le-ltb, not-true, not-false}
-use borrow.Author.Rules.{rules}
+use borrow.Author.Tests.{lt-ltb, le-ltb}
 use Rattle.pool_table.specs.Pool.{slot_count}
 use Rattle.pool_table.specs.Words.{is_legal, pool_of}
 use Rattle.pool_table.proofs.Rows.{row_within}
@@ -12,7 +11,7 @@ use Rattle.pool_table.proofs.row_of.Goals as goal
 
 pub returns-then-not-is_legal : goal.returns-then-not-is_legal
 returns-then-not-is_legal c = let a = c.args in
-    let e : is_legal (length a.table.now) ≡ false = sym c.is_legal.ensures ∙ not-true c.is_legal.result c.if-not-is_legal.true in
+    let e : is_legal (length a.table.now) ≡ false = sym c.is_legal.ensures ∙ c.if-not-is_legal.true in
     rw e
 
 pub returns-then-slots-s : goal.returns-then-slots-s
@@ -30,5 +29,5 @@ overflow_add-result c = let a = c.args in
 pub returns : goal.returns
 returns c = let a = c.args in
     let l = c.is_legal in
-    let e : is_legal (length a.table.now) ≡ true = sym l.ensures ∙ not-false l.result c.if-not-is_legal.false in
+    let e : is_legal (length a.table.now) ≡ true = sym l.ensures ∙ c.if-not-is_legal.false in
     rw (e, lt-ltb a.s (slot_count (pool_of a.table.now)) (omega arith))

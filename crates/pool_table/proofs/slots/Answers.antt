@@ -2,7 +2,6 @@ use mathlib.Core.Path.{◌≡◌, sym, ◌∙◌}
 use Prim.Native.Nat.{◌-◌, ◌/◌}
 use native.Mathlib.Omega.{arith}
 use lib.ListN.{length}
-use borrow.Author.Rules.{rules}
 use Rattle.pool_table.specs.Words.{slots_in}
 use Rattle.pool_table.proofs.Rows.{slot_count_lem}
 use Rattle.pool_table.proofs.slots.Goals as goal

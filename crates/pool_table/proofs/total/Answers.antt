@@ -1,4 +1,3 @@
-use borrow.Author.Rules.{rules}
 use Rattle.pool_table.specs.Words.{pool_of}
 use Rattle.pool_table.proofs.total.Goals as goal
 

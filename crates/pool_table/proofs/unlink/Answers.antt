@@ -1,5 +1,4 @@
 use native.Mathlib.Omega.{arith}
-use borrow.Author.Rules.{rules}
 use Rattle.pool_table.specs.Changes.{unlinked}
 use Rattle.pool_table.proofs.Changes.{row_there, row_none, row_end, next_within, unlinked_both}
 use Rattle.pool_table.proofs.unlink.Goals as goal
@@ -37,7 +36,7 @@ pub slice_bounds-remove-end-2 : goal.slice_bounds-remove-end-2
 slice_bounds-remove-end-2 c = let e = c.before.before.before.before in
     let a = e.args in
     let r = row_there a.table.now a.s e.row_of-at.ensures e.if-at-eq0.false in
-    next_within a.table.now c.remove.new.0 a.s r a.b c.remove.ensures.set_len_unchanged
+    next_within a.table.now c.remove.new.set a.s r a.b c.remove.ensures.set_len_unchanged
 
 pub returns : goal.returns
 returns c = let e = c.before.before.before.before.before.before.before.before in
@@ -45,6 +44,6 @@ returns c = let e = c.before.before.before.before.before.before.before.before in
     let r = row_there a.table.now a.s e.row_of-at.ensures e.if-at-eq0.false in
     let p = c.remove in
     let q = c.remove-2 in
-    unlinked_both a.table.now p.new.0 a.s r a.b p.ensures.set_len_unchanged q.new.0 p.ensures.by_index
+    unlinked_both a.table.now p.new.set a.s r a.b p.ensures.set_len_unchanged q.new.set p.ensures.by_index
     (λ j. (c.slice_known-2-1.given j).fits) q.ensures.set_len_unchanged q.ensures.by_index
-    (λ j. (c.slice_known-3-1.given j).fits)
+    (λ j. (c.type_inv.table j).fits)

@@ -1,7 +1,6 @@
 use native.Mathlib.Omega.{arith}
 use lib.ListN.{take}
 use lib.Seq.{lt-length-sets}
-use borrow.Author.Rules.{rules}
 use Rattle.pool_table.specs.Words.{entry_words}
 use Rattle.pool_table.proofs.Puts.{sets_all}
 use Rattle.pool_table.proofs.write_entry.Goals as goal

@@ -1,6 +1,5 @@
 use mathlib.Core.Path.{ap, sym}
 use native.Mathlib.Omega.{arith}
-use borrow.Author.Rules.{rules}
 use Rattle.pool_table.specs.Pool.{Slot}
 use Rattle.pool_table.specs.Words.{slot_words, entry_words, pool_of}
 use Rattle.pool_table.proofs.Rows.{slot_past, entry_is}

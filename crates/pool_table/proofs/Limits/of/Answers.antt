@@ -1,4 +1,3 @@
-use borrow.Author.Rules.{rules}
 use Rattle.pool_table.specs.Words.{pool_of, limits_in}
 use Rattle.pool_table.proofs.Limits.of.Goals as goal
 
