@@ -2,6 +2,6 @@
 
 #![tactic(auto)]
 
-fn main() {
-    cluster_run::run();
+fn main(rt: HostRuntime) {
+    cluster_run::run(&rt);
 }

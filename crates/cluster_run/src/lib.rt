@@ -8,8 +8,10 @@ ghost use Rattle.cluster_run.specs.Stops.{Stopped, text_read};
 
 mod reads;
 
-use libc::STDOUT_FILENO;
 use reads::{End, Failure, Got};
+
+// The descriptor of standard output.
+const STDOUT_FILENO: i32 = 1;
 
 // Why no more is read, and how many bytes were.
 #[derive(Clone, Copy)]
@@ -28,9 +30,9 @@ enum Text {
 }
 
 // Where a read fails, nothing is known of the input, and nothing is printed.
-pub fn run() {
+pub fn run(rt: &HostRuntime) {
     let mut text = room();
-    let Text::Bytes(len) = text_read(read_input(&mut text)) else {
+    let Text::Bytes(len) = text_read(read_input(rt, &mut text)) else {
         return;
     };
     let mut out = [0u8; 8192];
@@ -59,13 +61,13 @@ fn text_read(stop: Stop) -> Text
 }
 
 // Reads until the input ends, the room is full or the answer is certain; or until a read fails.
-fn read_input(text: &mut [u8]) -> Stop
+fn read_input(rt: &HostRuntime, text: &mut [u8]) -> Stop
     ensures { Stopped text.new result }
 {
     let mut len: usize = 0;
     // The first `len` bytes are what was read, and they leave the answer open.
     while len < text.len() {
-        let got = reads::read_more(text, len);
+        let got = reads::read_more(rt, text, len);
         match got {
             Got::Ended(end) => return Stop::Ended(end),
             Got::Failed(failure) => return Stop::Failed(failure),

@@ -4,7 +4,7 @@ ghost use Rattle.std.specs.Prelude.{◌≡◌, false, ◌<◌, length, take};
 ghost use Rattle.cluster_reader.specs.Calls.{is_decided};
 ghost use Rattle.cluster_run.specs.Stops.{Gave};
 
-use libc::STDIN_FILENO;
+use std::io::Read;
 
 // A read behind so many bytes gave none: the input has ended there.
 #[derive(Clone, Copy)]
@@ -36,16 +36,14 @@ impl End {
 
 // One read into the room behind the first `from` bytes. It asks for a place there, since a read into none gives none, and that these
 // bytes leave the answer open: "without reading on".
-pub fn read_more(text: &mut [u8], from: usize) -> Got
+pub fn read_more(rt: &HostRuntime, text: &mut [u8], from: usize) -> Got
     requires from_in_bounds { from < length text.old }
     requires text_value { is_decided (take from text.old) ≡ false }
     ensures { Gave from (length text.new) result }
 {
-    let got = libc::read(STDIN_FILENO, &mut text[from..]);
-    if got < 0 {
+    let Ok(n) = rt.stdin().read(&mut text[from..]) else {
         return Got::Failed(Failure { at: from });
-    }
-    let n = io::count(got, &text[from..]);
+    };
     if n == 0 {
         return Got::Ended(End { at: from });
     }

@@ -2,6 +2,6 @@
 
 #![tactic(auto)]
 
-fn main() {
-    pool_run::run();
+fn main(rt: HostRuntime) {
+    pool_run::run(&rt);
 }

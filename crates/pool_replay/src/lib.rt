@@ -11,9 +11,13 @@ ghost use Rattle.std.specs.Prelude.{◌≡◌, ◌+◌, ◌<◌, ◌≤◌, leng
 
 mod templates;
 
-use libc::{STDIN_FILENO, STDOUT_FILENO};
 use pool_rules::Placed;
 use pool_table::Limits;
+
+// The descriptors of standard input and output.
+const STDIN_FILENO: i32 = 0;
+
+const STDOUT_FILENO: i32 = 1;
 
 // 1,024 slots, and one word more.
 const WORDS: usize = 39_941;
@@ -50,7 +54,7 @@ fn replay(input: &[u8], table: &mut [u64], deltas: &mut [i64], marks: &mut [u8])
     let mut lent = table.len();
     let mut from: usize = 0;
     while from < input.len() {
-        let end = bytes::scan::find(input, from, input.len(), b'\n');
+        let end = texts::place(input, from, b'\n');
         let line = numbers_of(&input[from..end]);
         lent = perform(line, lent, table, deltas, marks);
         from = end + 1;
@@ -67,7 +71,7 @@ fn numbers_of(text: &[u8]) -> Line {
         if NUMBERS <= count {
             return Line { numbers, count };
         }
-        let end = bytes::scan::find(text, at, text.len(), b' ');
+        let end = texts::place(text, at, b' ');
         let number = decimal(&text[at..end]);
         numbers[count] = number;
         count += 1;

@@ -1,7 +1,7 @@
 // The lines of templates: a slot's delta and mark, and the call.
 ghost use Rattle.std.specs.Prelude.{◌≡◌, length};
 
-use crate::{NUMBERS, PLACES, held, number};
+use crate::{NUMBERS, PLACES, STDOUT_FILENO, held, number};
 use refusals::Reply;
 use template_rules::Terms;
 use weights::RawWeight;
@@ -115,11 +115,11 @@ fn show_places(room: &[usize], written: usize) {
     let n = held(written as u64, room.len());
     let mut i: usize = 0;
     while i < n {
-        io::write_all(libc::STDOUT_FILENO, b" ");
+        io::write_all(STDOUT_FILENO, b" ");
         number(room[i] as u64, b"");
         i += 1;
     }
-    io::write_all(libc::STDOUT_FILENO, b"\n");
+    io::write_all(STDOUT_FILENO, b"\n");
 }
 
 // `digest` of the room.

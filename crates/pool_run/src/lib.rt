@@ -45,14 +45,14 @@ pub struct Last {
 }
 
 // It answers why it stopped, so that a run which reads nothing has no answer to give.
-pub fn run() -> Last
+pub fn run(rt: &HostRuntime) -> Last
     ensures { Finished result }
 {
     let mut line = [0u8; KEPT];
     let mut memory = words();
     let mut deltas = [0i64; 1024];
     let mut marks = [0u8; 1024];
-    read_all(&mut line, &mut memory, &mut deltas, &mut marks)
+    read_all(rt, &mut line, &mut memory, &mut deltas, &mut marks)
 }
 
 // The words of a table of 1,024 slots.
@@ -63,6 +63,7 @@ fn words() -> [u64; 39_940] {
 // Reads and answers to the input's end. Where a read or a write fails, nothing more is printed. A proved loop has to end, and nothing says
 // that the input does: so the loop counts its turns down, from a number that no run uses up.
 fn read_all(
+    rt: &HostRuntime,
     line: &mut [u8; KEPT],
     memory: &mut [u64; 39_940],
     deltas: &mut [i64; 1024],
@@ -81,7 +82,7 @@ fn read_all(
     // Each line of the input so far is answered, and the last one is gathered up to where the input stands.
     while 0 < turns {
         turns -= 1;
-        match reads::read_chunk(&mut chunk, input, at) {
+        match reads::read_chunk(rt, &mut chunk, input, at) {
             Got::Failed(failure) => return stopped(Stop::Failed(failure), at),
             Got::Ended(end) => return finish(end, at),
             Got::Bytes(more) => {

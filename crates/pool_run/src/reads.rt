@@ -7,7 +7,7 @@ ghost use Rattle.pool_run.specs.Standing.{Told};
 
 use crate::State;
 use crate::counts::held_sum;
-use libc::STDIN_FILENO;
+use std::io::Read;
 
 // So many reads gave bytes, so many together, and so many the last one.
 #[derive(Clone, Copy)]
@@ -56,16 +56,14 @@ pub fn nothing() -> Input
 }
 
 // It asks that each line so far is answered, so that the program can be talked with.
-pub fn read_chunk(room: &mut [u8; 4096], before: Input, _at: State) -> Got
+pub fn read_chunk(rt: &HostRuntime, room: &mut [u8; 4096], before: Input, _at: State) -> Got
     requires { Told before.bytes _at }
     ensures { Gave before (length room.new) result }
 {
-    let got = libc::read(STDIN_FILENO, room);
     let bytes = before.bytes;
-    if got < 0 {
+    let Ok(last) = rt.stdin().read(room) else {
         return Got::Failed(Failure { bytes });
-    }
-    let last = io::count(got, room);
+    };
     if last == 0 {
         return Got::Ended(End { bytes });
     }

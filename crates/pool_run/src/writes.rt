@@ -6,7 +6,9 @@ ghost use Rattle.pool_run.specs.Reads.{unprinted, Wrote};
 ghost use Rattle.pool_run.specs.Standing.{Due, DueLast};
 
 use crate::counts::held_sum;
-use libc::STDOUT_FILENO;
+
+// The descriptor of standard output.
+const STDOUT_FILENO: i32 = 1;
 
 // The number of the line that is answered next, how many bytes the answers so far have together, and whether all of them were written.
 #[derive(Clone, Copy)]

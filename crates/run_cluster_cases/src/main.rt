@@ -6,7 +6,9 @@
 
 ghost use Rattle.std.specs.Prelude.{◌≤◌};
 
-use libc::STDOUT_FILENO;
+// The descriptor of standard output.
+const STDOUT_FILENO: i32 = 1;
+
 use refusals::Reply;
 
 // Room for one member too many, and a place behind.

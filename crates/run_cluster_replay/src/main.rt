@@ -7,9 +7,13 @@
 ghost use Rattle.std.specs.Prelude.{true, ◌≡◌, ◌+◌, ◌≤◌, ◌<◌, min, length};
 
 use cluster_reader::Input;
-use libc::{STDIN_FILENO, STDOUT_FILENO};
 use refusals::Reply;
 use txset::{POSITIONS, SET_WORDS};
+
+// The descriptors of standard input and output.
+const STDIN_FILENO: i32 = 0;
+
+const STDOUT_FILENO: i32 = 1;
 
 #[derive(Clone, Copy)]
 enum Call {
@@ -96,7 +100,7 @@ fn line_end(text: &[u8], from: usize) -> usize
     requires { from ≤ length text.now }
     ensures { (from ≤ result) × (result ≤ length text.now) }
 {
-    bytes::scan::find(text, from, text.len(), b'\n')
+    texts::place(text, from, b'\n')
 }
 
 fn starts(text: &[u8], key: &[u8]) -> bool

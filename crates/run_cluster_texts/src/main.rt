@@ -6,7 +6,10 @@
 ghost use Rattle.std.specs.Prelude.{◌≡◌, ◌≤◌, ◌<◌, length};
 ghost use Rattle.run_cluster_texts.specs.Bounds.{Within};
 
-use libc::{STDIN_FILENO, STDOUT_FILENO};
+// The descriptors of standard input and output.
+const STDIN_FILENO: i32 = 0;
+
+const STDOUT_FILENO: i32 = 1;
 
 // How many bytes a line stands for, or that they are too many.
 #[derive(Clone, Copy)]
@@ -46,7 +49,7 @@ fn line_end(input: &[u8], from: usize) -> usize
     requires { from ≤ length input.now }
     ensures { (from ≤ result) × (result ≤ length input.now) }
 {
-    bytes::scan::find(input, from, input.len(), b'\n')
+    texts::place(input, from, b'\n')
 }
 
 fn case(line: &[u8]) {

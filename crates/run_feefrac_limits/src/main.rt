@@ -3,7 +3,8 @@
 #![tactic(auto)]
 
 use feefrac::{FeeFrac, Ordering};
-use libc::STDOUT_FILENO;
+// The descriptor of standard output.
+const STDOUT_FILENO: i32 = 1;
 
 const MOST: u64 = 18_446_744_073_709_551_615;
 
