@@ -1,13 +1,11 @@
-use mathlib.Core.Path.{◌≡◌, sym, ap, ◌∙◌}
+use mathlib.Core.Path.{sym, ap, ◌∙◌}
 use mathlib.Core.Bool.{Bool, ◌&&◌}
 use mathlib.Core.Logic.{⊎_elim}
-use Prim.Native.Nat.{ℕ, ◌-◌, ◌≤◌, ◌<◌}
+use Prim.Native.Nat.{◌≤◌, ◌<◌}
 use native.Mathlib.Omega.{arith}
-use lib.Dec.{ltb}
 use borrow.Author.Tests.{lt-ltb, le-ltb}
 use borrow.Author.Rules.{rules}
 use Rattle.lists.proofs.Numbers.{lt_or_ge}
-use Rattle.txset.specs.Sets.{mem}
 use Rattle.slotsets.specs.SlotSets.{set_words}
 use Rattle.pool_links.proofs.Gaps.{is_filled, filled_past, filled_empty, filled_insert}
 use Rattle.pool_links.proofs.filled.Goals as goal
@@ -23,8 +21,8 @@ loop-k-preserved c = let l = c.loop-k in
     let same = filled_empty c.args.words.now l.k l.some l.invariant.1 in (
       search rules,
       elim c.if-words-k-ne0.branch [
-        then-words-k-ne0 w ↦ rw w.some-is (more w.insert-some.result (omega (arith, c.loop-k-test.true)) w.if-words-k-ne0.true w.insert-some.ensures)
-      | else-words-k-ne0 w ↦ rw w.some-is (same w.if-words-k-ne0.false)
+        | then-words-k-ne0 w ↦ rw w.some-is (more w.insert-some.result (omega (arith, c.loop-k-test.true)) w.if-words-k-ne0.true w.insert-some.ensures)
+        | else-words-k-ne0 w ↦ rw w.some-is (same w.if-words-k-ne0.false)
       ],
     )
 

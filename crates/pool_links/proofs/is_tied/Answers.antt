@@ -1,6 +1,5 @@
 use mathlib.Core.Path.{◌≡◌, sym, ap, ◌∙◌}
 use mathlib.Core.Bool.{Bool, false, ◌&&◌, and-false}
-use borrow.Author.Rules.{rules}
 use Rattle.txset.specs.Sets.{has_in}
 use Rattle.pool_table.specs.Pool.{slot_at, occupied}
 use Rattle.pool_table.specs.Words.{pool_of}
@@ -23,9 +22,9 @@ returns-then-not-is_occupied-2 c = let args = c.args in
 pub returns : goal.returns
 unfolding is_tied
 returns c = rw (
-      ← c.is_occupied.ensures,
-      c.if-not-is_occupied.false,
-      ← c.is_occupied-2.ensures,
-      c.if-not-is_occupied-2.false,
-    )
+  ← c.is_occupied.ensures,
+  c.if-not-is_occupied.false,
+  ← c.is_occupied-2.ensures,
+  c.if-not-is_occupied-2.false,
+)
     c.names.ensures

@@ -5,17 +5,16 @@ use Prim.Native.Nat.{ℕ, ◌+◌, ◌*◌, ◌<◌}
 use native.Mathlib.Omega.{arith}
 use lib.ListN.{length, get_or}
 use borrow.Author.Tests.{not-true, not-false}
-use borrow.Author.Rules.{rules}
 use Rattle.lists.proofs.Bools.{clash}
-use Rattle.txset.specs.Sets.{is_empty, size}
+use Rattle.txset.specs.Sets.{is_empty}
 use Rattle.txset.proofs.Walk.{walk_less}
 use Rattle.slotsets.specs.SlotSets.{set_words}
 use Rattle.pool_table.specs.declared.Side.TheVariants.{Children}
-use Rattle.pool_table.specs.Pool.{Pool, slot_at}
+use Rattle.pool_table.specs.Pool.{slot_at}
 use Rattle.pool_table.specs.Words.{pool_of}
 use Rattle.pool_table.proofs.Rows.{whole_slot}
 use Rattle.pool_links.specs.Steps.{children_to, Walking}
-use Rattle.pool_links.proofs.Gaps.{Ahead, ahead_start, ahead_end, ahead_up, ahead_below, ahead_gap, ahead_next}
+use Rattle.pool_links.proofs.Gaps.{ahead_start, ahead_end, ahead_up, ahead_below, ahead_gap, ahead_next}
 use Rattle.pool_links.proofs.Walking.{there, links_own, walking_gap, release_start, release_done}
 use Rattle.pool_links.proofs.release.Goals as goal
 use Rattle.pool_links.proofs.release.Goals.{After-links-words, After-lowest-j}
@@ -66,10 +65,10 @@ loop-words-smaller c = walk_less c.loop-words.rest c.without_lowest-rest.result 
 
 pub loop-words-preserved : goal.loop-words-preserved
 loop-words-preserved c = let low = (goal.at.loop-words-preserved c).After-lowest-j in (
-      c.lowest-j.result + 1,
-      ahead_next c.loop-words.invariant.1 (left low) c.lowest-j.ensures c.without_lowest-rest.ensures,
-      c.release_word-step.ensures.walking_2 (not-false _ c.if-not-step.false),
-    )
+  c.lowest-j.result + 1,
+  ahead_next c.loop-words.invariant.1 (left low) c.lowest-j.ensures c.without_lowest-rest.ensures,
+  c.release_word-step.ensures.walking_2 (not-false _ c.if-not-step.false),
+)
 
 -- ---- no word is left
 

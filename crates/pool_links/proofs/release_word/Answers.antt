@@ -1,16 +1,14 @@
 use mathlib.Core.Path.{◌≡◌, refl, sym, ◌∙◌, subst}
 use mathlib.Core.Bool.{true, false, ◌||◌}
-use mathlib.Core.List.{List}
-use Prim.Native.Nat.{ℕ, ◌+◌, ◌-◌, ◌*◌, ◌≤◌, ◌<◌}
+use Prim.Native.Nat.{ℕ, ◌+◌, ◌*◌, ◌<◌}
 use native.Mathlib.Omega.{arith}
 use lib.Dec.{eqb}
-use lib.ListN.{length, get_or, set}
-use borrow.Author.Rules.{rules}
+use lib.ListN.{length}
 use Rattle.lists.proofs.Bools.{clash}
 use Rattle.txset.specs.Sets.{has_in, positions, is_empty, size}
 use Rattle.txset.proofs.Walk.{walk_less, lowest_position}
-use Rattle.slotsets.specs.SlotSets.{capacity, set_words}
-use Rattle.pool_table.specs.Pool.{Pool, slot_at, slot_count}
+use Rattle.slotsets.specs.SlotSets.{capacity}
+use Rattle.pool_table.specs.Pool.{Pool, slot_at}
 use Rattle.pool_table.specs.Words.{pool_of}
 use Rattle.pool_links.specs.Steps.{is_tied, Walking}
 use Rattle.pool_links.proofs.Ends.{tied_fails}

@@ -1,16 +1,15 @@
-use mathlib.Core.Path.{◌≡◌, refl, sym, ap, ◌∙◌, subst}
-use mathlib.Core.Bool.{true, false}
+use mathlib.Core.Path.{◌≡◌, sym, ap, ◌∙◌, subst}
+use mathlib.Core.Bool.{true}
 use mathlib.Core.List.{List}
-use Prim.Native.Nat.{ℕ, ◌+◌, ◌-◌, ◌*◌, ◌≤◌, ◌<◌}
+use Prim.Native.Nat.{ℕ, ◌<◌}
 use native.Mathlib.Omega.{arith}
-use lib.ListN.{length, get_or, set}
-use borrow.Author.Rules.{rules}
+use lib.ListN.{length}
 use Rattle.lists.specs.Below.{count_from}
 use Rattle.lists.proofs.Ranges.{count_le}
 use Rattle.txset.specs.Sets.{has_in}
-use Rattle.slotsets.specs.SlotSets.{capacity, set_words}
+use Rattle.slotsets.specs.SlotSets.{capacity}
 use Rattle.pool_table.specs.declared.Side.TheVariants.{Parents}
-use Rattle.pool_table.specs.Pool.{Pool, slot_at, slot_count}
+use Rattle.pool_table.specs.Pool.{slot_at, slot_count}
 use Rattle.pool_table.specs.Words.{pool_of}
 use Rattle.pool_table.specs.Links.{has_links}
 use Rattle.pool_table.proofs.Legal.{few_slots}
