@@ -1,17 +1,16 @@
 -- The end of the walk: all slots with links are queued exactly where links are mutual and no chain of parents closes. Assumes nothing.
 use mathlib.Core.Path.{◌≡◌, refl, sym, ap, ap₂, ◌∙◌}
-use mathlib.Core.Bool.{Bool, true, false, not, ◌&&◌, ◌||◌, and-true, and-false}
-use mathlib.Core.Logic.{⊎_elim}
+use mathlib.Core.Bool.{Bool, true, false, not, ◌&&◌}
 use mathlib.Core.List.{List}
-use Prim.Native.Nat.{ℕ, zero, suc, ◌+◌, ◌≤◌, ◌<◌}
+use Prim.Native.Nat.{ℕ, ◌+◌, ◌<◌}
 use native.Mathlib.Omega.{arith}
 use lib.Dec.{eqb, ltb}
-use lib.ListN.{length, get_or, take}
+use lib.ListN.{get_or, take}
 use lib.Seq.{length-take-le}
-use borrow.Author.Tests.{lt-ltb, ltb-true, eq-eqb, ne_eqb, eqb-true, eqb-false, not-true, not-false}
+use borrow.Author.Tests.{lt-ltb, ltb-true, eq-eqb, eqb-true, not-true, not-false}
 use Rattle.lists.specs.Below.{bit, any_from, all_from, count_from, first_from}
 use Rattle.lists.specs.Lists.{elem}
-use Rattle.lists.proofs.Bools.{clash, cases, and_both, and_right, implies, is_true, is_false}
+use Rattle.lists.proofs.Bools.{clash, cases, and_both, implies, is_true, is_false}
 use Rattle.lists.proofs.Below.{at_all, first_has, first_below, none_at}
 use Rattle.lists.proofs.Ranges.{count_parts, count_all, count_zero, count_none}
 use Rattle.lists.proofs.Once.{once_missing}

@@ -1,23 +1,20 @@
 -- Laws of mutual links: both sides of each slot, and what they give. Assumes nothing.
 use mathlib.Core.Path.{◌≡◌, refl, sym, ap, ap₂, ◌∙◌}
-use mathlib.Core.Bool.{Bool, true, false, not, ◌&&◌, ◌||◌, and-true, or-true}
+use mathlib.Core.Bool.{Bool, true, false, not, ◌&&◌, ◌||◌}
 use mathlib.Core.Logic.{⊎_elim}
 use mathlib.Core.List.{List}
-use Prim.Native.Nat.{ℕ, ◌+◌, ◌-◌, ◌*◌, ◌≤◌, ◌<◌}
+use Prim.Native.Nat.{ℕ, ◌+◌, ◌*◌, ◌≤◌, ◌<◌}
 use native.Mathlib.Omega.{arith}
-use lib.Dec.{eqb, ltb}
+use lib.Dec.{ltb}
 use lib.ListN.{get_or}
-use borrow.Author.Tests.{lt-ltb, ltb-true, eqb-true}
+use borrow.Author.Tests.{lt-ltb, ltb-true}
 use Rattle.lists.specs.Below.{all_from}
 use Rattle.lists.proofs.Bools.{clash, and_both, and_left, and_right}
 use Rattle.lists.proofs.Numbers.{lt_or_ge}
-use Rattle.lists.proofs.Below.{all_at, at_all}
-use Rattle.txset.specs.declared.TxSet.{TxSet}
-use Rattle.txset.specs.Sets.{has, has_in, positions, mem, is_empty, lowest_of}
+use Rattle.lists.proofs.Below.{all_at}
+use Rattle.txset.specs.Sets.{has, has_in, positions, mem}
 use Rattle.txset.proofs.Words.{has_in_low}
-use Rattle.txset.proofs.Sets.{mem_position, empty_mem}
-use Rattle.txset.proofs.Walk.{lowest_mem, lowest_position}
-use Rattle.slotsets.specs.SlotSets.{capacity, set_words}
+use Rattle.slotsets.specs.SlotSets.{capacity}
 use Rattle.slotsets.proofs.Words.{word_in}
 use Rattle.slotsets.proofs.SlotSets.{set_past}
 use Rattle.pool_table.specs.declared.Side.{Side}

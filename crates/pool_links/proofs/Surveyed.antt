@@ -1,16 +1,15 @@
 -- The survey of all slots: how many parents each names, and which of those with links name none. Assumes nothing.
 use mathlib.Core.Path.{◌≡◌, refl, sym, ap, ap₂, ◌∙◌, subst}
-use mathlib.Core.Bool.{Bool, true, false, not, ◌&&◌, ◌||◌, and-true, and-false, or-false}
-use mathlib.Core.Logic.{⊎_elim}
+use mathlib.Core.Bool.{Bool, true, false, ◌&&◌, ◌||◌, and-true, and-false, or-false}
 use mathlib.Core.List.{List, [], ◌∷◌, ◌++◌}
-use Prim.Native.Nat.{ℕ, suc, ◌+◌, ◌≤◌, ◌<◌}
+use Prim.Native.Nat.{ℕ, ◌+◌, ◌≤◌, ◌<◌}
 use native.Mathlib.Nat.{zero-add}
 use native.Mathlib.Numerals.{add-one}
 use native.Mathlib.Omega.{arith}
 use lib.Dec.{eqb, ltb}
 use lib.ListN.{length, get_or, take, set, replicate, length-set}
-use lib.Seq.{length-take-le, get_or-set_same, get_or-set_other, take-suc-set}
-use borrow.Author.Tests.{lt-ltb, le-ltb, eq-eqb, ne_eqb, eqb-true, eqb-false}
+use lib.Seq.{get_or-set_same, get_or-set_other, take-suc-set}
+use borrow.Author.Tests.{le-ltb, eq-eqb, ne_eqb, eqb-true, eqb-false}
 use Rattle.lists.specs.Below.{bit, count_from}
 use Rattle.lists.specs.Lists.{elem, any_of}
 use Rattle.lists.proofs.Bools.{clash, cases, and_both}
@@ -18,7 +17,7 @@ use Rattle.lists.proofs.Numbers.{below_here, below_else}
 use Rattle.lists.proofs.Below.{count_ext, count_split}
 use Rattle.lists.proofs.Ranges.{count_none}
 use Rattle.lists.proofs.Lists.{elem_snoc}
-use Rattle.lists.proofs.Once.{Once, once_none, once_more, once_missing, missing_snoc}
+use Rattle.lists.proofs.Once.{Once, once_none, once_more}
 use Rattle.txset.specs.Sets.{has_in}
 use Rattle.ways.specs.Ways.{Way, step, further}
 use Rattle.slotsets.specs.SlotSets.{capacity}
@@ -29,7 +28,7 @@ use Rattle.pool_table.proofs.Parts.{zeros_at}
 use Rattle.pool_table.proofs.Named.{unlinked_side}
 use Rattle.pool_links.specs.Steps.{unmet, no_link, Walk}
 use Rattle.pool_links.proofs.Mutual.{parent_parts}
-use Rattle.pool_links.proofs.Walks.{walk_ext, met_all}
+use Rattle.pool_links.proofs.Walks.{met_all}
 
 -- no link was walked: all parents are to come
 pub unmet_all : (p : Pool) (s k : ℕ) → k ≡ count_from (has_in (slot_at p s).parents) capacity 0 → k ≡ unmet p no_link s

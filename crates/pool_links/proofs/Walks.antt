@@ -7,11 +7,11 @@ use Prim.Native.Nat.{ℕ, suc, ◌+◌, ◌-◌, ◌≤◌, ◌<◌}
 use native.Mathlib.Numerals.{add-one}
 use native.Mathlib.Omega.{arith}
 use lib.Dec.{eqb, ltb}
-use lib.ListN.{length, get_or, take, set, length-set}
+use lib.ListN.{get_or, take, set, length-set}
 use lib.Seq.{length-take-le, get_or-set_same, get_or-set_other, take-suc-set}
-use borrow.Author.Tests.{lt-ltb, eq-eqb, ne_eqb, eqb-true, eqb-false, not-true, not-false}
+use borrow.Author.Tests.{lt-ltb, eq-eqb, ne_eqb, eqb-true, eqb-false, not-false}
 use Rattle.lists.specs.Lists.{elem}
-use Rattle.lists.proofs.Bools.{clash, cases, and_both, or_either, or_left, without_or, is_true}
+use Rattle.lists.proofs.Bools.{clash, cases, and_both, or_either, without_or, is_true}
 use Rattle.lists.proofs.Below.{count_ext, count_without}
 use Rattle.lists.proofs.Ranges.{count_zero}
 use Rattle.lists.proofs.Lists.{elem_snoc, in_snoc}
@@ -21,7 +21,7 @@ use Rattle.ways.specs.Ways.{Way, step, further}
 use Rattle.ways.proofs.Ways.{way_stays}
 use Rattle.slotsets.specs.SlotSets.{capacity}
 use Rattle.pool_table.specs.declared.Side.{Side}
-use Rattle.pool_table.specs.declared.Side.TheVariants.{Parents, Children}
+use Rattle.pool_table.specs.declared.Side.TheVariants.{Parents}
 use Rattle.pool_table.specs.Pool.{Slot, Pool, slot_at, slot_count, occupied}
 use Rattle.pool_table.specs.Links.{side_of, has_links, is_parent}
 use Rattle.pool_table.proofs.Named.{unlinked_side}

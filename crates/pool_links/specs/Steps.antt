@@ -1,5 +1,5 @@
 -- What the steps of `links_stand` hand to each other: no contract outside this crate cites this. Assumes nothing.
-use Rattle.std.specs.Prelude.{ℕ, ◌+◌, ◌-◌, ◌*◌, ◌≤◌, ◌<◌, ◌≡◌, Bool, true, false, not, ◌&&◌, ◌||◌, List, eqb, ltb, length, get_or, take}
+use Rattle.std.specs.Prelude.{ℕ, ◌≤◌, ◌<◌, ◌≡◌, Bool, true, false, not, ◌&&◌, ◌||◌, List, eqb, ltb, length, get_or, take}
 use Rattle.lists.specs.Below.{count_from}
 use Rattle.lists.specs.Lists.{elem, distinct}
 use Rattle.txset.specs.Sets.{has_in}

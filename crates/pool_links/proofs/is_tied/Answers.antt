@@ -1,7 +1,5 @@
 use mathlib.Core.Path.{◌≡◌, sym, ap, ◌∙◌}
 use mathlib.Core.Bool.{Bool, false, ◌&&◌, and-false}
-use borrow.Author.Tests.{not-true, not-false}
-use borrow.Author.Rules.{rules}
 use Rattle.txset.specs.Sets.{has_in}
 use Rattle.pool_table.specs.Pool.{slot_at, occupied}
 use Rattle.pool_table.specs.Words.{pool_of}
@@ -10,25 +8,23 @@ use Rattle.pool_links.proofs.is_tied.Goals as goal
 
 pub returns-then-not-is_occupied : goal.returns-then-not-is_occupied
 unfolding is_tied
-returns-then-not-is_occupied c = rw (← c.is_occupied.ensures, not-true c.is_occupied.result c.if-not-is_occupied.true)
+returns-then-not-is_occupied c = rw (← c.is_occupied.ensures, c.if-not-is_occupied.true)
 
 pub returns-then-not-is_occupied-2 : goal.returns-then-not-is_occupied-2
 unfolding is_tied
 returns-then-not-is_occupied-2 c = let args = c.args in
     let p = pool_of args.table.now in
-    let e : occupied p args.c ≡ false = sym c.is_occupied-2.ensures ∙ not-true c.is_occupied-2.result c.if-not-is_occupied-2.true in
+    let e : occupied p args.c ≡ false = sym c.is_occupied-2.ensures ∙ c.if-not-is_occupied-2.true in
     sym
     (ap (λ (b : Bool). (occupied p args.a && b) && has_in (slot_at p args.c).parents args.a) e
     ∙ ap (λ (b : Bool). b && has_in (slot_at p args.c).parents args.a) (and-false (occupied p args.a)))
 
 pub returns : goal.returns
 unfolding is_tied
-returns c = let second = c.before in
-    let first = second.before.before in
-    rw (
-      ← first.is_occupied.ensures,
-      not-false first.is_occupied.result first.if-not-is_occupied.false,
-      ← second.is_occupied-2.ensures,
-      not-false second.is_occupied-2.result second.if-not-is_occupied-2.false,
-    )
+returns c = rw (
+  ← c.is_occupied.ensures,
+  c.if-not-is_occupied.false,
+  ← c.is_occupied-2.ensures,
+  c.if-not-is_occupied-2.false,
+)
     c.names.ensures

@@ -1,18 +1,8 @@
-use mathlib.Core.Path.{◌≡◌, refl, sym, ap, ◌∙◌, subst}
-use mathlib.Core.Bool.{Bool, true, false, ◌&&◌}
-use mathlib.Core.List.{List}
-use Prim.Native.Nat.{ℕ, ◌-◌, ◌≤◌, ◌<◌}
-use native.Mathlib.Omega.{arith}
-use lib.ListN.{length, take}
-use borrow.Author.Tests.{not-true, not-false}
-use borrow.Author.Rules.{rules}
+use Prim.Native.Nat.{◌-◌, ◌≤◌}
+use lib.ListN.{take}
 use Rattle.slotsets.specs.SlotSets.{capacity}
-use Rattle.pool_table.specs.Words.{is_legal, pool_of}
-use Rattle.pool_table.specs.WellFormed.{links_mutual, acyclic}
+use Rattle.pool_table.specs.Words.{pool_of}
 use Rattle.pool_links.specs.Steps.{of_done, Walk}
-use Rattle.pool_links.proofs.Walks.{walk_ext}
-use Rattle.pool_links.proofs.Walking.{none_done}
-use Rattle.pool_links.proofs.Ends.{walk_end}
 use Rattle.pool_links.proofs.links_stand.Given as goal
 
 abbrev pub invariant-loop-at : goal.invariant-loop-at

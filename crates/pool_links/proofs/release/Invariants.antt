@@ -1,22 +1,8 @@
-use mathlib.Core.Path.{◌≡◌, refl, sym, ap, ◌∙◌}
-use mathlib.Core.Bool.{false}
-use mathlib.Core.List.{List}
-use Prim.Native.Nat.{ℕ, ◌+◌, ◌*◌, ◌<◌}
-use native.Mathlib.Omega.{arith}
-use lib.ListN.{length, get_or}
-use borrow.Author.Tests.{not-true, not-false}
-use borrow.Author.Rules.{rules}
-use Rattle.lists.proofs.Bools.{clash}
-use Rattle.txset.specs.Sets.{is_empty, size}
-use Rattle.txset.proofs.Walk.{walk_less}
-use Rattle.slotsets.specs.SlotSets.{set_words}
-use Rattle.pool_table.specs.declared.Side.TheVariants.{Children}
-use Rattle.pool_table.specs.Pool.{Pool, slot_at}
+use Prim.Native.Nat.{ℕ, ◌*◌}
+use Rattle.txset.specs.Sets.{size}
 use Rattle.pool_table.specs.Words.{pool_of}
-use Rattle.pool_table.proofs.Rows.{whole_slot}
 use Rattle.pool_links.specs.Steps.{children_to, Walking}
-use Rattle.pool_links.proofs.Gaps.{Ahead, ahead_start, ahead_end, ahead_up, ahead_below, ahead_gap, ahead_next}
-use Rattle.pool_links.proofs.Walking.{there, links_own, walking_gap, release_start, release_done}
+use Rattle.pool_links.proofs.Gaps.{Ahead}
 use Rattle.pool_links.proofs.release.Given as goal
 
 -- the children in the words before x were met, and `rest` are the filled words from there on
