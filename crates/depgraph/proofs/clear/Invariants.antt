@@ -1,8 +1,6 @@
 use Prim.Native.Nat.{◌≤◌, ◌-◌}
-use native.Mathlib.Omega.{arith}
 use lib.ListN.{length}
-use borrow.Author.Rules.{rules}
-use Rattle.depgraph.proofs.Closure.{Clearing, clear_start, clear_turn, clear_done}
+use Rattle.depgraph.proofs.Closure.{Clearing}
 use Rattle.depgraph.proofs.clear.Given as goal
 
 abbrev pub invariant-loop-i : goal.invariant-loop-i

@@ -1,8 +1,5 @@
-use mathlib.Core.Path.{◌≡◌}
 use Prim.Native.Nat.{◌≤◌, ◌-◌}
-use native.Mathlib.Omega.{arith}
-use borrow.Author.Rules.{rules}
-use Rattle.depgraph.proofs.Closure.{within_up, within_down, Closing, joined_as, close_start, close_turn}
+use Rattle.depgraph.proofs.Closure.{Closing}
 use Rattle.depgraph.proofs.close.Given as goal
 
 abbrev pub invariant-loop-k : goal.invariant-loop-k

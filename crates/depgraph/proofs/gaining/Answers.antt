@@ -1,6 +1,5 @@
 use mathlib.Core.Path.{refl, sym, ap, ◌∙◌}
 use mathlib.Core.Bool.{Bool, ◌&&◌, and-false}
-use borrow.Author.Rules.{rules}
 use Rattle.lists.proofs.Bools.{clash}
 use Rattle.txset.specs.Sets.{mem}
 use Rattle.txset.proofs.Sets.{empty_mem}

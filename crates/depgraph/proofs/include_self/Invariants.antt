@@ -1,11 +1,5 @@
-use mathlib.Core.Path.{◌≡◌, sym}
-use mathlib.Core.Bool.{or-true, or-false}
-use mathlib.Core.Logic.{⊎_elim}
-use Prim.Native.Nat.{◌≤◌, ◌<◌, ◌-◌}
-use native.Mathlib.Omega.{arith}
-use borrow.Author.Rules.{rules}
-use Rattle.txset.specs.Sets.{positions}
-use Rattle.depgraph.proofs.Closure.{Including, own_start, own_put, own_turn}
+use Prim.Native.Nat.{◌≤◌, ◌-◌}
+use Rattle.depgraph.proofs.Closure.{Including}
 use Rattle.depgraph.proofs.include_self.Given as goal
 
 abbrev pub invariant-loop-i : goal.invariant-loop-i

@@ -1,13 +1,7 @@
-use mathlib.Core.Path.{◌≡◌, ◌∙◌}
-use Prim.Native.Nat.{ℕ, ◌≤◌, ◌-◌}
-use native.Mathlib.Omega.{arith}
+use Prim.Native.Nat.{◌≤◌, ◌-◌}
 use lib.ListN.{take}
-use lib.Seq.{length-take-le}
-use borrow.Author.Rules.{rules}
-use Rattle.txset.specs.Sets.{mem}
 use Rattle.depgraph.specs.Graph.{is_parent}
-use Rattle.depgraph.specs.Steps.{Within}
-use Rattle.depgraph.proofs.Closure.{Linking, link_start, link_turn, link_done, parents_within, own_parents}
+use Rattle.depgraph.proofs.Closure.{Linking}
 use Rattle.depgraph.proofs.link.Given as goal
 
 abbrev pub invariant-loop-i : goal.invariant-loop-i

@@ -1,9 +1,6 @@
 use mathlib.Core.Path.{◌≡◌}
 use Prim.Native.Nat.{◌-◌, ◌≤◌}
-use native.Mathlib.Numerals.{add-one}
-use lib.ListN.{length, drop, drop_of_length-le}
-use lib.Seq.{drop-cons}
-use borrow.Author.Rules.{rules}
+use lib.ListN.{length, drop}
 use Rattle.feeset.specs.Total.{total, total_from}
 use Rattle.feeset.proofs.list_feerate.Given as goal
 

@@ -1,27 +1,24 @@
-use Prim.Native.Nat.{◌-◌}
 use mathlib.Core.Path.{◌≡◌, sym, ap, ◌∙◌}
-use mathlib.Core.Bool.{true, false}
-use lib.ListN.{length, get_or}
+use lib.ListN.{get_or}
 use lib.IntN.{pos}
 use mir.Syntax.{w64}
 use mir.ValLaws.{to_z-of_z}
 use borrow.Author.Rules.{rules}
-use borrow.Author.Tests.{not-true, not-false}
 use Rattle.refusals.specs.Refusals.{in_range}
-use Rattle.refusals.proofs.Laws.{Passed, passed_none, passed_more, passed_stop, passed_all}
+use Rattle.refusals.proofs.Laws.{passed_none, passed_more, passed_stop, passed_all}
 use Rattle.refusals.proofs.first_outside.Goals as goal
 use Rattle.refusals.proofs.first_outside.Goals.{After-fee_in_range}
 
 -- the fee that was tested is the i-th
 tested : (c : After-fee_in_range)
     → c.fee_in_range.result ≡ in_range (get_or c.args.fees.now c.loop-i.i (pos 0))
-tested c = c.fee_in_range.ensures ∙ ap in_range (to_z-of_z w64 _ (record { sfits = c.fee-1.given }))
+tested c = c.fee_in_range.ensures ∙ ap in_range (to_z-of_z w64 _ (search rules))
 
 pub returns-then-not-fee_in_range : goal.returns-then-not-fee_in_range
-returns-then-not-fee_in_range c = let t = c.before in passed_stop t.loop-i.invariant t.loop-i-test.true (sym (tested t) ∙ c.if-not-fee_in_range.true)
+returns-then-not-fee_in_range c = passed_stop c.loop-i.invariant c.loop-i-test.true (sym (tested c.before) ∙ c.if-not-fee_in_range.true)
 
 pub loop-i-preserved : goal.loop-i-preserved
-loop-i-preserved c = let t = c.before in passed_more t.loop-i.invariant t.loop-i-test.true (sym (tested t) ∙ c.if-not-fee_in_range.false)
+loop-i-preserved c = passed_more c.loop-i.invariant c.loop-i-test.true (sym (tested c.before) ∙ c.if-not-fee_in_range.false)
 
 pub loop-i-init : goal.loop-i-init
 loop-i-init c = passed_none _

@@ -1,39 +1,29 @@
 use mathlib.Core.Path.{◌∙◌}
 use lib.ListN.{take}
-use borrow.Author.Rules.{rules}
 use Rattle.ways.specs.Ways.{reach}
 use Rattle.depgraph.specs.Graph.{is_parent}
 use Rattle.depgraph.proofs.Closure.{room_as, hold_nothing, closed_by}
 use Rattle.depgraph.proofs.DepGraph.new.Goals as goal
 
 pub link-requires : goal.link-requires
-link-requires c = let down = c.before.before.before.before in
-    let up = down.before.before.before.before in
-    let p = up.places-n.ensures in record {
-      n_in_bounds = p.there;
-      room = room_as p.room up.clear.auto.0 down.clear-2.auto.0;
-      holds = hold_nothing up.clear.ensures down.clear-2.ensures;
-    }
-
-pub include_self-cyclic-requires : goal.include_self-cyclic-requires
-include_self-cyclic-requires c = let close = c.before.before.before.before.before.before in
-    let link = close.before.before.before.before.before.before.before in
-    let down = link.before.before.before.before.before in
-    let up = down.before.before.before.before in
-    let p = up.places-n.ensures in
-    room_as
-    p.room
-    (close.close.auto.1.0 ∙ link.link.auto.1.1.0 ∙ up.clear.auto.0)
-    (close.close.auto.1.1.0 ∙ link.link.auto.1.1.1.0 ∙ down.clear-2.auto.0)
-
-pub returns : goal.returns
-returns c = let own = c.before.before.before.before in
-    let close = own.before.before.before.before.before.before.before in
-    let link = close.before.before.before.before.before.before.before in
-    let places = link.before.before.before.before.before.before.before.before.before.before.before in
-    let f = is_parent (take places.places-n.result places.args.parents.now) in
-    closed_by places.places-n.ensures
-    (own.include_self-cyclic.ensures (reach f places.places-n.result) (close.close.ensures f link.link.ensures))
+link-requires c = record {
+  n_in_bounds = c.places-n.ensures.there;
+  room = room_as c.places-n.ensures.room c.clear.auto.sets c.clear-2.auto.sets;
+  holds = hold_nothing c.clear.ensures c.clear-2.ensures;
+}
 
 pub close-requires : goal.close-requires
 close-requires c = (_, c.link.ensures)
+
+pub include_self-cyclic-requires : goal.include_self-cyclic-requires
+include_self-cyclic-requires c =
+    room_as
+    c.places-n.ensures.room
+    (c.close.auto.ancestors ∙ c.link.auto.ancestors ∙ c.clear.auto.sets)
+    (c.close.auto.descendants ∙ c.link.auto.descendants ∙ c.clear-2.auto.sets)
+
+pub returns : goal.returns
+returns c =
+    let f = is_parent (take c.places-n.result c.args.parents.now) in
+    closed_by c.places-n.ensures
+    (c.include_self-cyclic.ensures (reach f c.places-n.result) (c.close.ensures f c.link.ensures))
