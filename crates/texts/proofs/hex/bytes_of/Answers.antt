@@ -5,7 +5,6 @@ use borrow.Author.Rules.{rules}
 use Rattle.lists.proofs.Bools.{clash}
 use Rattle.texts.proofs.HexText.{Spelt, not_64, none_read, bad_high, bad_low, byte_read, all_read}
 use Rattle.texts.proofs.hex.bytes_of.Goals as goal
-use Rattle.texts.proofs.hex.bytes_of.Goals.{After-value-low, In-loop-i}
 
 pub returns-then-text-ne64 : goal.returns-then-text-ne64
 returns-then-text-ne64 c = record {
@@ -13,31 +12,23 @@ returns-then-text-ne64 c = record {
   bytes_after = λ e. clash e refl;
 }
 
--- a turn: the two digits
-module _ (c : After-value-low) where
-  abbrev turn : In-loop-i
-  turn = c.before.before.before.before
-
-  abbrev inv : Spelt turn.before.before.before.before.before.args.text.now turn.before.loop.bytes turn.before.loop.i
-  inv = turn.before.loop.inv
-
 pub returns-then-high-gt15 : goal.returns-then-high-gt15
-returns-then-high-gt15 c = let d = c.before in record {
-  value = sym (bad_high (inv d) (turn d).loop-i-test.true (omega (arith, d.value-high.ensures)));
+returns-then-high-gt15 c = record {
+  value = sym (bad_high c.loop-i.invariant c.loop-i-test.true (omega (arith, c.value-high.ensures)));
   bytes_after = λ e. clash e refl;
 }
 
 pub returns-then-low-gt15 : goal.returns-then-low-gt15
-returns-then-low-gt15 c = let d = c.before.before in record {
-  value = sym (bad_low (inv d) (turn d).loop-i-test.true (omega (arith, d.value-low.ensures)));
+returns-then-low-gt15 c = record {
+  value = sym (bad_low c.loop-i.invariant c.loop-i-test.true (omega (arith, c.value-low.ensures)));
   bytes_after = λ e. clash e refl;
 }
 
 pub loop-i-preserved : goal.loop-i-preserved
-loop-i-preserved c = let d = c.before.before in
-    let high = d.value-high.ensures in
-    let low = d.value-low.ensures in
-    rw (high, low) (byte_read (inv d) (turn d).loop-i-test.true (omega arith) (omega arith))
+loop-i-preserved c = 
+    let high = c.value-high.ensures in
+    let low = c.value-low.ensures in
+    rw (high, low) (byte_read c.loop-i.invariant c.loop-i-test.true (omega arith) (omega arith))
 
 pub returns : goal.returns
 returns c = let all = all_read c.loop-i.invariant c.loop-i-test.false in record {

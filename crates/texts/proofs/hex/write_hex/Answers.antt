@@ -10,24 +10,26 @@ use Rattle.texts.proofs.hex.write_hex.Goals as goal
 use Rattle.texts.proofs.hex.write_hex.Goals.{Else-out-at-2}
 
 pub returns-then-out-at : goal.returns-then-out-at
-returns-then-out-at c = put_none _ _ _ (omega arith)
+returns-then-out-at c =
+    let p = put_none (hex_text c.args.bytes.now) c.args.at c.args.out.now (omega arith) in
+    record { value = p.0; out_after = p.1 }
 
 pub returns-then-out-at-2 : goal.returns-then-out-at-2
-returns-then-out-at-2 c = put_none _ _ _ (omega (arith, text_length c.args.bytes.now))
+returns-then-out-at-2 c =
+    let p = put_none (hex_text c.args.bytes.now) c.args.at c.args.out.now (omega (arith, text_length c.args.bytes.now)) in
+    record { value = p.0; out_after = p.1 }
 
 room : (c : Else-out-at-2)
     → (let args = c.args in Room (hex_text args.bytes.now) args.at args.out.now)
 room c = record { fits = omega (arith, text_length c.args.bytes.now) }
 
 pub loop-i-preserved : goal.loop-i-preserved
-loop-i-preserved c = let low = c.before.before.before.before.before in
-    let high = low.before in
-    let turn = high.before.before in
-    pair_wrote turn.loop-i.invariant turn.loop-i-test.true high.digit.ensures low.digit-in-loop-i.ensures
-    (writes c.write_bytes-end.ensures)
+loop-i-preserved c = 
+    let w = c.write_bytes-end.ensures in
+    pair_wrote c.loop-i.invariant c.loop-i-test.true c.digit.ensures c.digit-in-loop-i.ensures (writes (w.value, w.out_after))
 
 pub loop-i-init : goal.loop-i-init
-loop-i-init c = hex_start (room c)
+loop-i-init c = hex_start (room (goal.at.loop-i-init c).Else-out-at-2)
 
 pub digit-requires : goal.digit-requires
 digit-requires c = omega (arith, c.shared_slice_known-in-loop-i-1.given c.loop-i.i)
@@ -36,4 +38,6 @@ pub shape_of-out : goal.shape_of-out
 shape_of-out c = c.loop-i.invariant.left.long
 
 pub returns : goal.returns
-returns c = put (room c.before.before) (hex_done c.loop-i.invariant c.loop-i-test.false)
+returns c =
+    let p = put (room (goal.at.returns c).Else-out-at-2) (hex_done c.loop-i.invariant c.loop-i-test.false) in
+    record { value = p.0; out_after = p.1 }

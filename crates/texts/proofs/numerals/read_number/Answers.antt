@@ -6,6 +6,7 @@ use lib.ListN.{length}
 use borrow.Author.Rules.{rules}
 use Rattle.texts.proofs.Decimals.{no_digits, extra_zero, one_byte, no_zero, Spelt, start, done, below_digits, above_digits, overflows, turn}
 use Rattle.texts.proofs.numerals.read_number.Goals as goal
+use Rattle.texts.proofs.numerals.read_number.Goals.{then-text-gt1+else-text-eq48, else-text-gt1}
 
 pub returns-then-text-eq0 : goal.returns-then-text-eq0
 returns-then-text-eq0 c = sym (no_digits c.args.text.now c.if-text-eq0.true)
@@ -15,7 +16,7 @@ returns-then-text-eq48 c = sym (extra_zero c.args.text.now (omega arith) c.if-te
 
 pub loop-i-init : goal.loop-i-init
 loop-i-init c = let text = c.args.text.now in
-    start text (⊎_elim (λ w. no_zero text c.if-text-eq0.false w.2.left) (λ w. one_byte text c.if-text-eq0.false (omega arith)) c.if-text-gt1.branch)
+    start text (elim c.if-text-gt1.branch [ then-text-gt1+else-text-eq48 w ↦ no_zero text c.if-text-eq0.false w.if-text-eq48.false | else-text-gt1 w ↦ one_byte text c.if-text-eq0.false (omega arith) ])
 
 pub returns-then-b-lt48 : goal.returns-then-b-lt48
 returns-then-b-lt48 c = sym (below_digits c.loop-i.invariant c.loop-i-test.true c.if-b-lt48.true)

@@ -23,21 +23,21 @@ whole c =
     ∙ ap positive (sym c.read_number-2.ensures)
 
 pub returns-in_default : goal.returns-in_default
-returns-in_default c = sym (behind c.before.before ∙ ap negative c.in_default.is)
+returns-in_default c = sym (behind (goal.at.returns-in_default c).After-read_number ∙ ap negative c.in_default.is)
 
 pub returns-then-text-eq45 : goal.returns-then-text-eq45
-returns-then-text-eq45 c = c.below_zero.ensures ∙ sym (behind c.before.before.before.before ∙ ap negative c.in-Value.is)
+returns-then-text-eq45 c = c.below_zero.ensures ∙ sym (behind (goal.at.returns-then-text-eq45 c).After-read_number ∙ ap negative c.in-Value.is)
 
 pub returns-in_default-read_number : goal.returns-in_default-read_number
-returns-in_default-read_number c = sym (whole c.before.before ∙ ap positive c.in_default-read_number.is)
+returns-in_default-read_number c = sym (whole (goal.at.returns-in_default-read_number c).After-read_number-2 ∙ ap positive c.in_default-read_number.is)
 
 pub returns-then-size-gt9223372036854775807 : goal.returns-then-size-gt9223372036854775807
-returns-then-size-gt9223372036854775807 c = let d = c.before.before in
-    sym (whole d.before.before ∙ ap positive d.in-Value-read_number.is ∙ positive_large d.in-Value-read_number.size c.if-size-gt9223372036854775807.true)
+returns-then-size-gt9223372036854775807 c = 
+    sym (whole (goal.at.returns-then-size-gt9223372036854775807 c).After-read_number-2 ∙ ap positive c.in-Value-read_number.is ∙ positive_large c.in-Value-read_number.size c.if-size-gt9223372036854775807.true)
 
 pub returns : goal.returns
-returns c = let d = c.before.before in
-    sym (whole d.before.before ∙ ap positive d.in-Value-read_number.is ∙ positive_fits d.in-Value-read_number.size c.if-size-gt9223372036854775807.false)
+returns c = 
+    sym (whole (goal.at.returns c).After-read_number-2 ∙ ap positive c.in-Value-read_number.is ∙ positive_fits c.in-Value-read_number.size c.if-size-gt9223372036854775807.false)
 
 pub returns-then-text-eq0 : goal.returns-then-text-eq0
 returns-then-text-eq0 c = sym (no_text c.args.text.now c.if-text-eq0.true)

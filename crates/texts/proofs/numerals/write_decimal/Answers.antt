@@ -7,11 +7,13 @@ use Rattle.texts.proofs.numerals.write_decimal.Goals as goal
 use Rattle.texts.proofs.numerals.write_decimal.Goals.{After-decimal-k}
 
 -- the digits written are the number's
-are : (c : After-decimal-k) → take c.decimal-k.result c.decimal-k.new.1.0 ≡ decimal c.args.number
+are : (c : After-decimal-k) → take c.decimal-k.result c.decimal-k.new.out ≡ decimal c.args.number
 are c =
-    let start = c.before.before.before in
     let e = c.decimal-k.ensures in
-    e.1.1 ∙ sym (decimal_digits start.args.number c.decimal-k.result start.ranges.number.fits e.1.0)
+    e.digits ∙ sym (decimal_digits c.args.number c.decimal-k.result c.ranges.number.fits e.len)
 
 pub returns : goal.returns
-returns c = rw (← are c.before.before.before.before.before) c.write_bytes.ensures
+returns c =
+    let d = are (goal.at.returns c).After-decimal-k in
+    let w = c.write_bytes.ensures in
+    record { value = rw (← d) w.value; out_after = rw (← d) w.out_after }
