@@ -11,11 +11,7 @@ use Rattle.pool_members.specs.Members.{parents_of}
 use Rattle.pool_members.proofs.Stored.{Storing, storing_start, storing_within, storing_more, storing_done}
 use Rattle.pool_members.proofs.Laid.{parent_in, parents_word}
 use Rattle.pool_members.proofs.parents.note_all.Goals as goal
-use Rattle.pool_members.proofs.parents.note_all.Goals.{After-rank_all, Start}
-
--- from the call that ranks the members back to the start
-abbrev start : After-rank_all → Start
-start c = c.before.before.before.before.before.before.before
+use Rattle.pool_members.proofs.parents.note_all.Goals.{Start}
 
 -- each member is below the rooms' lengths
 below : (c : Start) (n : ℕ) → slot_count (pool_of c.args.table.now) < n → (k : ℕ) → k < length c.args.members.now
@@ -23,21 +19,20 @@ below : (c : Start) (n : ℕ) → slot_count (pool_of c.args.table.now) < n → 
 below c n e k l = omega (arith, c.requires.closed.below (get_or c.args.members.now k 0) (elem_at c.args.members.now k l))
 
 pub rank_all-requires : goal.rank_all-requires
-rank_all-requires c = let st = c.before.before.before.before.before.before in record {
-  slots_value = st.requires.closed.once;
-  by_index = below st _ st.requires.table_in_bounds;
+rank_all-requires c = record {
+  slots_value = c.requires.closed.once;
+  by_index = below (goal.at.rank_all-requires c).Start _ c.requires.table_in_bounds;
 }
 
 pub loop-k-init : goal.loop-k-init
-loop-k-init c = let st = start c.before.before in
-    let closed = st.pre.1.0 in
-    let long = st.pre.1.1 in
-    (storing_start _ _ _ closed.once (below st _ long.1.0), storing_start _ _ _ closed.once (below st _ long.1.1))
+loop-k-init c = let st = (goal.at.loop-k-init c).Start in
+    let closed = c.requires.closed in
+    let long = c.requires.table_in_bounds_2 in
+    (storing_start _ _ _ closed.once (below st _ long.0), storing_start _ _ _ closed.once (below st _ long.1))
 
 pub parents_at-above-requires : goal.parents_at-above-requires
-parents_at-above-requires c = let rank = c.before.before.before.before.before.before in
-    let st = start rank in
-    λ a e. omega (arith, rank.rank_all.ensures.long, st.pre.1.1.0, parent_in st.args.table.now st.pre.0 _ a e)
+parents_at-above-requires c =
+    λ a e. omega (arith, c.rank_all.ensures.long, c.requires.table_in_bounds, parent_in c.args.table.now c.requires.linked _ a e)
 
 -- the member is one of the slots
 pub bounds-firsts-s : goal.bounds-firsts-s
@@ -47,17 +42,14 @@ pub bounds-ups-s : goal.bounds-ups-s
 bounds-ups-s c = storing_within c.loop-k.invariant.1 c.loop-k-test.true
 
 pub loop-k-preserved : goal.loop-k-preserved
-loop-k-preserved c = let loop = c.before.before.before.before in
-    let rank = loop.before.before.before in
-    let st = start rank in
-    let ms = st.args.members.now in
-    let k = loop.loop-k.k in
+loop-k-preserved c = let ms = c.args.members.now in
+    let k = c.loop-k.k in
     let l = c.loop-k-test.true in
     let word = c.parents_at-above.result.word in (
-      storing_more loop.loop-k.invariant.0 st.args.first l refl,
-      storing_more loop.loop-k.invariant.1 word l
-          (parents_word st.args.table.now st.pre.0 ms rank.rank_all.new.1.0 (get_or ms k 0) word st.pre.1.0
-          rank.rank_all.ensures.here
+      storing_more c.loop-k.invariant.0 c.args.first l refl,
+      storing_more c.loop-k.invariant.1 word l
+          (parents_word c.args.table.now c.requires.linked ms c.rank_all.new.ranks (get_or ms k 0) word c.requires.closed
+          c.rank_all.ensures.here
           (elem_at ms k l) (omega (arith, c.parents_at-above.type_inv)) c.parents_at-above.ensures),
     )
 

@@ -12,7 +12,7 @@ use Rattle.pool_members.proofs.Laid.{parent_in, parents_word}
 use Rattle.pool_members.proofs.parents.note_all.Given as goal
 
 abbrev pub invariant-loop-k : goal.invariant-loop-k
-invariant-loop-k l = Storing l.members (λ l.k. l.first) l.initial.firsts l.firsts l.k × Storing l.members (λ l.k. parents_of (pool_of l.table) l.members (get_or l.members l.k 0)) l.initial.ups l.ups l.k
+invariant-loop-k l = Storing l.members (λ k. l.first) l.initial.firsts l.firsts l.k × Storing l.members (λ k. parents_of (pool_of l.table) l.members (get_or l.members k 0)) l.initial.ups l.ups l.k
 
 abbrev pub decreases-loop-k : goal.decreases-loop-k
 decreases-loop-k l = length l.members - l.k

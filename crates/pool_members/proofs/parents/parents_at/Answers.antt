@@ -26,12 +26,12 @@ pub bounds-places-a : goal.bounds-places-a
 bounds-places-a c = let else = c.before.before.before.before in
     let loop = else.before.before.before in
     loop.loop-left.invariant.1 else.lowest-a.result
-    (lowest_here loop.loop-left.false else.lowest-a.result else.lowest-a.ensures else.if-a-ge-CAPACITY.false)
+    (lowest_here loop.loop-left.left else.lowest-a.result else.lowest-a.ensures else.if-a-ge-CAPACITY.false)
 
 pub loop-left-smaller : goal.loop-left-smaller
 loop-left-smaller c = let remove = c.before.before.before in
     let else = remove.before.before in
-    lowest_less else.loop-left.false remove.remove.new.0 else.lowest-a.result else.lowest-a.ensures
+    lowest_less else.loop-left.left remove.remove.new.set else.lowest-a.result else.lowest-a.ensures
     else.if-a-ge-CAPACITY.false remove.remove.ensures.by_index
 
 pub loop-left-preserved : goal.loop-left-preserved
@@ -41,5 +41,5 @@ loop-left-preserved c = let remove = c.before.before.before in
       remove.remove.ensures.set_len_unchanged ∙ inv.0,
       λ i e. inv.1 i (and_left _ _ (sym (remove.remove.ensures.by_index i) ∙ e)),
       ranking_turn inv.2 else.lowest-a.result else.lowest-a.ensures else.if-a-ge-CAPACITY.false
-          remove.remove.new.0 remove.remove.ensures.by_index (mem c.insert-set.result) c.insert-set.ensures,
+          remove.remove.new.set remove.remove.ensures.by_index (mem c.insert-set.result) c.insert-set.ensures,
     )
