@@ -1,8 +1,8 @@
 -- `higher` as an order of feerates, for callers. It is strict; it chains where a size is above zero, since feerates of size zero
 -- stand beside each other whatever their fees: 1/0 is higher than 0/1 and that than -1/0, but 1/0 is not higher than -1/0. Assumes nothing.
-use mathlib.Core.Path.{◌≡◌, refl, sym, ap, ◌∙◌}
+use mathlib.Core.Path.{◌≡◌, sym, ap, ◌∙◌}
 use mathlib.Core.Bool.{true, false}
-use Prim.Native.Nat.{ℕ, zero, suc, ◌+◌, ◌*◌, ◌≤◌, ◌<◌}
+use Prim.Native.Nat.{ℕ, ◌+◌, ◌*◌, ◌≤◌, ◌<◌}
 use native.Mathlib.Nat.{add-mul, mul-add, mul_assoc, mul_comm, mul_right_comm}
 use native.Mathlib.Nat.{le_of_lt, mul-le-mul_right, mul-lt-mul_of_pos_right, lt_of_mul-lt-mul_left, le_of_mul-le-mul_left}
 use native.Mathlib.Omega.{arith}

@@ -2,7 +2,6 @@ use mathlib.Core.Path.{sym}
 use mir.Syntax.{w64}
 use mir.ValLaws.{to_z-of_z}
 use lib.Seq.{set_out}
-use borrow.Author.Rules.{rules}
 use Rattle.feefrac.proofs.put_fee.Goals as goal
 
 pub returns-then-i-fees : goal.returns-then-i-fees

@@ -1,6 +1,5 @@
 use mathlib.Core.Path.{refl, sym}
 use lib.Seq.{set_out}
-use borrow.Author.Rules.{rules}
 use Rattle.feefrac.proofs.put_size.Goals as goal
 
 pub returns-then-i-sizes : goal.returns-then-i-sizes

@@ -5,12 +5,11 @@ use Prim.Native.Nat.{◌+◌, ◌-◌, ◌*◌, ◌<◌}
 use native.Mathlib.Omega.{arith}
 use lib.Dec.{ltb}
 use borrow.Author.Tests.{lt-ltb, le-ltb}
-use borrow.Author.Rules.{rules}
 use Rattle.lists.proofs.Numbers.{ltb_same}
 use Rattle.txset.specs.Sets.{mem}
 use Rattle.txset.proofs.Words.{has_in_low, has_in_zeros}
 use Rattle.slotsets.specs.SlotSets.{capacity}
-use Rattle.slotsets.proofs.Words.{Upto, upto_start, upto_turn, upto_done}
+use Rattle.slotsets.proofs.Words.{upto_start, upto_turn, upto_done}
 use Rattle.slotsets.proofs.below.Goals as goal
 
 pub loop-j-init : goal.loop-j-init

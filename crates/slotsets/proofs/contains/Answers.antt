@@ -1,7 +1,6 @@
 use mathlib.Core.Path.{sym, ap, ◌∙◌}
 use Prim.Native.Nat.{ℕ, ◌/◌, ◌%◌}
 use lib.ListN.{get_or, get_or-eq_default}
-use borrow.Author.Rules.{rules}
 use Rattle.txset.specs.Sets.{has, has_in}
 use Rattle.txset.proofs.Bits.{has_shift, has_nil}
 use Rattle.slotsets.proofs.contains.Goals as goal

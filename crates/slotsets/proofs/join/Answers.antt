@@ -1,9 +1,6 @@
 use mathlib.Core.Logic.{inl, inr}
-use Prim.Native.Nat.{◌-◌}
 use native.Mathlib.Omega.{arith}
-use lib.ListN.{length}
-use borrow.Author.Rules.{rules}
-use Rattle.slotsets.proofs.Words.{Upto, upto_start, upto_done, joined, joined_past, joined_turn}
+use Rattle.slotsets.proofs.Words.{upto_start, upto_done, joined_past, joined_turn}
 use Rattle.slotsets.proofs.join.Goals as goal
 
 pub loop-j-init : goal.loop-j-init

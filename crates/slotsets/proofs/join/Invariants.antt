@@ -1,9 +1,6 @@
-use mathlib.Core.Logic.{inl, inr}
 use Prim.Native.Nat.{◌-◌}
-use native.Mathlib.Omega.{arith}
 use lib.ListN.{length}
-use borrow.Author.Rules.{rules}
-use Rattle.slotsets.proofs.Words.{Upto, upto_start, upto_done, joined, joined_past, joined_turn}
+use Rattle.slotsets.proofs.Words.{Upto, joined}
 use Rattle.slotsets.proofs.join.Given as goal
 
 abbrev pub invariant-loop-j : goal.invariant-loop-j

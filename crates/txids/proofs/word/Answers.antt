@@ -1,11 +1,7 @@
 -- `word`: the bytes read so far, with the rest behind them, are the word. Assumes nothing.
-use Prim.Native.Nat.{◌+◌, ◌-◌}
+use Prim.Native.Nat.{◌+◌}
 use native.Mathlib.Omega.{arith}
-use borrow.Author.Rules.{rules}
-use Rattle.txids.proofs.Numbers.{Reading, reading_start, reading_fits, reading_turn, reading_ended, reading_done}
-use Rattle.txids.proofs.word.Reads as reads
-use Rattle.txids.proofs.word.Lts as lts
-use Rattle.txids.proofs.wide.Reads as wide-reads
+use Rattle.txids.proofs.Numbers.{reading_start, reading_fits, reading_turn, reading_ended, reading_done}
 use Rattle.txids.proofs.word.Goals as goal
 
 pub returns-then-bytes-at : goal.returns-then-bytes-at

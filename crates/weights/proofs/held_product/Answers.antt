@@ -1,6 +1,5 @@
 -- `held_product`: a division tells whether the product fits. Assumes nothing.
 use native.Mathlib.Omega.{arith}
-use borrow.Author.Rules.{rules}
 use Rattle.weights.specs.Weights.{most}
 use Rattle.weights.proofs.Products.{held_nothing, held_most, product_fits, held_whole}
 use Rattle.weights.proofs.held_product.Goals as goal

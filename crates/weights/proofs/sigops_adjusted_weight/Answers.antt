@@ -2,7 +2,6 @@
 use Prim.Native.Nat.{max}
 use native.Mathlib.Omega.{arith}
 use mathlib.Core.Path.{◌≡◌, ap, ◌∙◌}
-use borrow.Author.Rules.{rules}
 use Rattle.weights.specs.Weights.{adjusted}
 use Rattle.weights.proofs.sigops_adjusted_weight.Goals as goal
 

@@ -1,6 +1,5 @@
 -- `size_of`: with a remainder or without. Assumes nothing.
 use native.Mathlib.Omega.{arith}
-use borrow.Author.Rules.{rules}
 use Rattle.weights.specs.Weights.{virtual_size}
 use Rattle.weights.proofs.size_of.Goals as goal
 

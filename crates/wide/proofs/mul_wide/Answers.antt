@@ -1,5 +1,5 @@
 -- The products of the digits leave room in the high word for a carry, and what the sum of the middle ones lost by wrapping comes back by it.
-use Rattle.std.proofs.Common.{◌≡◌, ℕ, ◌+◌, ◌*◌, ◌/◌, ◌%◌, ◌≤◌, arith, rules}
+use Rattle.std.proofs.Common.{◌≡◌, ℕ, ◌+◌, ◌*◌, ◌/◌, ◌%◌, ◌≤◌, arith}
 use Rattle.wide.proofs.Product.{digit_product, by_digits, carry_small, carried}
 use Rattle.wide.proofs.mul_wide.Goals as goal
 use Rattle.wide.proofs.mul_wide.Goals.{After-carry, Start}

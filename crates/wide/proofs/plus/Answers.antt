@@ -1,4 +1,4 @@
-use Rattle.std.proofs.Common.{arith, rules}
+use Rattle.std.proofs.Common.{arith}
 use Rattle.wide.proofs.Quotient.{carry, no_carry}
 use Rattle.wide.proofs.plus.Goals as goal
 

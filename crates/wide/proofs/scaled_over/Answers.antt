@@ -1,6 +1,6 @@
-use Rattle.std.proofs.Common.{◌-◌, ◌<◌, ⊎_elim, mod-lt, pos_of_ne-zero, arith, rules}
+use Rattle.std.proofs.Common.{◌<◌, mod-lt, pos_of_ne-zero, arith, rules}
 use native.Mathlib.Nat.{div-zero}
-use Rattle.wide.proofs.Quotient.{Passed, none_passed, rest_below, twice_below, bits_small, bit_0, bit_1, all_passed}
+use Rattle.wide.proofs.Quotient.{none_passed, rest_below, twice_below, bits_small, bit_0, bit_1, all_passed}
 use Rattle.wide.proofs.scaled_over.Goals as goal
 use Rattle.wide.proofs.scaled_over.Goals.{After-sum_below-rest, Else-size-eq0, then-bits-eq1, else-bits-eq1}
 

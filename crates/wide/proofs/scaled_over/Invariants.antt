@@ -1,6 +1,5 @@
-use Rattle.std.proofs.Common.{◌-◌, ◌<◌, ⊎_elim, mod-lt, pos_of_ne-zero, arith, rules}
-use native.Mathlib.Nat.{div-zero}
-use Rattle.wide.proofs.Quotient.{Passed, none_passed, rest_below, twice_below, bits_small, bit_0, bit_1, all_passed}
+use Rattle.std.proofs.Common.{◌-◌}
+use Rattle.wide.proofs.Quotient.{Passed}
 use Rattle.wide.proofs.scaled_over.Given as goal
 
 abbrev pub invariant-loop-k : goal.invariant-loop-k

@@ -1,4 +1,4 @@
-use Rattle.std.proofs.Common.{sym, rules}
+use Rattle.std.proofs.Common.{sym}
 use Rattle.wide.proofs.Quotient.{past, below}
 use Rattle.wide.proofs.sum_below.Goals as goal
 

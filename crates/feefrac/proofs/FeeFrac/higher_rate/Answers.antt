@@ -1,5 +1,4 @@
 use mathlib.Core.Path.{sym, ap, ◌∙◌}
-use borrow.Author.Rules.{rules}
 use Rattle.feefrac.specs.Rate.{is_greater}
 use Rattle.feefrac.proofs.Order.{higher_greater}
 use Rattle.feefrac.proofs.FeeFrac.higher_rate.Goals as goal

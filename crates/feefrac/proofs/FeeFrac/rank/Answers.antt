@@ -1,4 +1,3 @@
-use borrow.Author.Rules.{rules}
 use Rattle.feefrac.specs.Rate.{rank_order}
 use Rattle.feefrac.proofs.FeeFrac.rank.Goals as goal
 

@@ -1,5 +1,4 @@
 use mathlib.Core.Path.{sym, ◌∙◌}
-use borrow.Author.Rules.{rules}
 use Rattle.feefrac.proofs.Order.{rate_above, rate_below, rate_same, narrow_fits, narrow_higher}
 use Rattle.feefrac.proofs.compare.compare_narrow.Goals as goal
 

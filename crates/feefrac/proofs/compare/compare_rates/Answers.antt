@@ -1,5 +1,3 @@
-use borrow.Author.Rules.{rules}
-use borrow.Author.Tests.{not-false}
 use Rattle.feefrac.proofs.compare.compare_rates.Goals as goal
 
 pub compare_narrow-requires : goal.compare_narrow-requires

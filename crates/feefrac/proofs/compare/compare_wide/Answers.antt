@@ -2,7 +2,7 @@ use mathlib.Core.Path.{◌≡◌, sym, ap, ◌∙◌}
 use Prim.Native.Nat.{ℕ, ◌+◌, ◌*◌}
 use native.Mathlib.Nat.{pos_of_ne-zero}
 use native.Mathlib.Omega.{arith}
-use lib.IntN.{ℤ, pos, nat_abs}
+use lib.IntN.{ℤ, nat_abs}
 use mir.Syntax.{w64}
 use mir.Val.{SFits, to_z, of_z}
 use mir.Facts.{to_z-of_z}
@@ -10,7 +10,7 @@ use borrow.Author.Rules.{rules}
 use borrow.Author.Tests.{eqb-true, eqb-false}
 use Rattle.feefrac.specs.Rate.{rate_order, size_order}
 use Rattle.wide.specs.Words.{value}
-use Rattle.feefrac.proofs.Signed.{Lt, Le, less, not_less, zero_fits}
+use Rattle.feefrac.proofs.Signed.{less, not_less, zero_fits}
 use Rattle.feefrac.proofs.Order.{size_above, size_below, size_same, both_up, both_down, up_down, down_up}
 use Rattle.feefrac.proofs.compare.compare_wide.Goals as goal
 use Rattle.feefrac.proofs.compare.compare_wide.Goals.{After-product-then-af-lt0-2, After-product-then-bf-lt0-2-2, Start, Else-af-lt0, Then-af-lt0}

@@ -1,5 +1,4 @@
 use mathlib.Core.Path.{sym, ◌∙◌}
-use borrow.Author.Rules.{rules}
 use borrow.Author.Tests.{ltb-true, ltb-false}
 use Rattle.feefrac.proofs.Order.{size_above, size_below, size_same}
 use Rattle.feefrac.proofs.compare.compare_words.Goals as goal

@@ -2,7 +2,6 @@ use mathlib.Core.Path.{ap, ◌∙◌}
 use Prim.Native.Nat.{ℕ, ◌*◌}
 use lib.IntN.{nat_abs}
 use mir.Facts.{to_z-of_z}
-use borrow.Author.Rules.{rules}
 use Rattle.feefrac.proofs.compare.product.Goals as goal
 
 pub returns : goal.returns

@@ -2,7 +2,6 @@
 use mathlib.Core.Path.{sym}
 use native.Mathlib.Nat.{min-eq_left, min-eq_right}
 use native.Mathlib.Omega.{arith}
-use borrow.Author.Rules.{rules}
 use Rattle.feefrac.proofs.held.add_size.Goals as goal
 
 pub returns-then-a-b : goal.returns-then-a-b

@@ -2,7 +2,7 @@ use mathlib.Core.Path.{ap, ◌∙◌}
 use lib.IntN.{neg_ℤ, +ℤ_idl}
 use mir.Facts.{to_z-of_z}
 use mir.Syntax.{w64}
-use borrow.Author.Rules.{rules, sfits_of}
+use borrow.Author.Rules.{sfits_of}
 use Rattle.feefrac.specs.Rate.{held_fee}
 use Rattle.feefrac.proofs.held.negate_fee.Goals as goal
 

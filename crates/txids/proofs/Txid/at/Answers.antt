@@ -1,7 +1,6 @@
 -- `Txid::at`: word by word. Assumes nothing.
 use native.Mathlib.Nat.{add-zero}
 use mathlib.Core.Path.{ap, ◌∙◌}
-use borrow.Author.Rules.{rules}
 use Rattle.txids.specs.Txids.{word_at, txid_at}
 use Rattle.txids.proofs.Txid.at.Goals as goal
 

@@ -2,8 +2,6 @@
 use mathlib.Core.Path.{sym, ◌∙◌}
 use Rattle.txids.specs.Txids.{before}
 use Rattle.txids.proofs.Orders.{lex_heads, lex_tails, lex_last}
-use Rattle.txids.proofs.Txid.before.Reads as reads
-use Rattle.txids.proofs.Txid.before.Lts as lts
 use Rattle.txids.proofs.Txid.before.Goals as goal
 
 pub returns-then-self-other : goal.returns-then-self-other

@@ -1,7 +1,6 @@
 use mathlib.Core.Path.{refl, sym, ap}
 use Prim.Native.Nat.{ℕ}
 use lib.ListN.{get_or-eq_default}
-use borrow.Author.Rules.{rules}
 use Rattle.txset.specs.Sets.{set_at}
 use Rattle.txset.specs.declared.TxSet.{TxSet}
 use Rattle.txset.proofs.TxSet.at.Goals as goal

@@ -1,6 +1,5 @@
 use mathlib.Core.List.{[]}
 use mathlib.Core.Path.{sym, ◌∙◌}
-use borrow.Author.Rules.{rules}
 use Rattle.txset.specs.Sets.{words, mem}
 use Rattle.txset.proofs.Bits.{has_shift}
 use Rattle.txset.proofs.Words.{has_in_low, has_in_past}

@@ -4,7 +4,6 @@ use Prim.Native.Nat.{ℕ, ◌-◌, ◌^◌, ◌≤◌}
 use native.Mathlib.Nat.{min-eq_left, min-eq_right}
 use native.Mathlib.Omega.{arith}
 use lib.Pow.{pow_pos}
-use borrow.Author.Rules.{rules}
 use Rattle.txset.specs.Sets.{has_in, mem}
 use Rattle.txset.proofs.Bits.{one_shifted}
 use Rattle.txset.proofs.Words.{has_in_full}

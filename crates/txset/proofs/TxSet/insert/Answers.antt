@@ -1,6 +1,5 @@
 use mathlib.Core.Bool.{Bool, ◌||◌}
 use mathlib.Core.Path.{ap, ◌∙◌}
-use borrow.Author.Rules.{rules}
 use Rattle.txset.specs.Sets.{mem}
 use Rattle.txset.proofs.TxSet.insert.Goals as goal
 

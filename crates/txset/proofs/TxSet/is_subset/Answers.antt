@@ -1,5 +1,4 @@
 use mathlib.Core.Path.{◌∙◌}
-use borrow.Author.Rules.{rules}
 use Rattle.txset.proofs.Sets.{subset_empty}
 use Rattle.txset.proofs.TxSet.is_subset.Goals as goal
 

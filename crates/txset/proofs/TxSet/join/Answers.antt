@@ -1,11 +1,9 @@
 -- The sets so far with what is left of the walk are the sets that come out.
 use mathlib.Core.Path.{◌≡◌, sym, ◌∙◌}
 use mathlib.Core.Bool.{false}
-use borrow.Author.Rules.{rules}
-use borrow.Author.Tests.{not-true, not-false}
-use Rattle.txset.specs.Sets.{is_empty, size}
+use Rattle.txset.specs.Sets.{is_empty}
 use Rattle.txset.proofs.Walk.{walk_less}
-use Rattle.txset.proofs.Joins.{Joining, join_start, join_turn, join_done}
+use Rattle.txset.proofs.Joins.{join_start, join_turn, join_done}
 use Rattle.txset.proofs.TxSet.join.Goals as goal
 use Rattle.txset.proofs.TxSet.join.Goals.{In-loop-self}
 

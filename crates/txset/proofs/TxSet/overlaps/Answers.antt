@@ -1,6 +1,5 @@
 use mathlib.Core.Bool.{not}
 use mathlib.Core.Path.{ap, ◌∙◌}
-use borrow.Author.Rules.{rules}
 use Rattle.txset.proofs.Sets.{overlap_empty}
 use Rattle.txset.proofs.TxSet.overlaps.Goals as goal
 

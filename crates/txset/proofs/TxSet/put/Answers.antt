@@ -1,6 +1,5 @@
 use mathlib.Core.Path.{refl, sym}
 use lib.Seq.{set_out}
-use borrow.Author.Rules.{rules}
 use Rattle.txset.specs.Sets.{put_at}
 use Rattle.txset.proofs.TxSet.put.Goals as goal
 

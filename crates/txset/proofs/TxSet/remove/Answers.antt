@@ -1,7 +1,6 @@
 use mathlib.Core.Bool.{Bool, not, ◌&&◌}
 use mathlib.Core.Path.{ap, ◌∙◌}
 use lib.Dec.{eqb}
-use borrow.Author.Rules.{rules}
 use Rattle.txset.specs.Sets.{mem}
 use Rattle.txset.proofs.Sets.{mem_without}
 use Rattle.txset.proofs.TxSet.remove.Goals as goal

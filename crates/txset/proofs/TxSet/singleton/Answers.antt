@@ -2,7 +2,6 @@ use mathlib.Core.Bool.{Bool, cond}
 use mathlib.Core.List.{[], ◌∷◌}
 use mathlib.Core.Path.{sym, ap, ◌∙◌}
 use Prim.Native.Nat.{ℕ, ◌^◌}
-use borrow.Author.Rules.{rules}
 use borrow.Author.Tests.{lt-ltb, le-ltb}
 use Rattle.txset.specs.Sets.{has_in, mem}
 use Rattle.txset.proofs.Bits.{one_shifted}
