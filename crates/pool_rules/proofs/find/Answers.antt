@@ -13,12 +13,12 @@ pub loop-s-init : goal.loop-s-init
 loop-s-init c = (search rules, below_none _)
 
 pub returns-then-holds : goal.returns-then-holds
-returns-then-holds c = let head = c.before.before.before in
-    found_here _ _ head.loop-s.s (omega arith) head.loop-s.invariant.1 (sym c.holds.ensures ∙ c.if-holds.true)
+returns-then-holds c =
+    found_here _ _ c.loop-s.s (omega arith) c.loop-s.invariant.1 (sym c.holds.ensures ∙ c.if-holds.true)
 
 pub loop-s-preserved : goal.loop-s-preserved
-loop-s-preserved c = let head = c.before.before.before in
-    (search rules, below_more _ head.loop-s.s head.loop-s.invariant.1 (sym c.holds.ensures ∙ c.if-holds.false))
+loop-s-preserved c =
+    (search rules, below_more _ c.loop-s.s c.loop-s.invariant.1 (sym c.holds.ensures ∙ c.if-holds.false))
 
 pub returns : goal.returns
 returns c = found_nowhere _ _ c.loop-s.s (omega arith) c.loop-s.invariant.1

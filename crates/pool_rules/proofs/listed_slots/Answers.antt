@@ -19,10 +19,8 @@ pub enter-requires : goal.enter-requires
 enter-requires c = ap length c.loop-j.invariant.1 ∙ set_long _
 
 pub loop-j-preserved : goal.loop-j-preserved
-loop-j-preserved c = let enter = c.before in
-    let at = enter.before in
-    let head = at.before.before.before in
-    (search rules, listed_turn _ _ _ head.loop-j.j _ _ _ head.loop-j.invariant.1 at.at.ensures enter.enter.ensures)
+loop-j-preserved c =
+    (search rules, listed_turn _ _ _ c.loop-j.j _ _ _ c.loop-j.invariant.1 c.at.ensures c.enter.ensures)
 
 pub returns : goal.returns
 returns c = listed_done _ _ _ c.loop-j.j _ (omega arith) c.loop-j.invariant.1
