@@ -1,5 +1,4 @@
 use mathlib.Core.Path.{sym, ap, ◌∙◌}
-use borrow.Author.Rules.{rules}
 use Rattle.pool_rules.specs.Calls.{placed_of}
 use Rattle.pool_rules.proofs.Finds.{is_at, is_nowhere}
 use Rattle.pool_rules.proofs.Listed.{own_nowhere, absent_nowhere, entered_none, entered_at}
