@@ -1,6 +1,6 @@
 -- `is_well_formed`: its rooms are wide enough for every table that stands. Assumes nothing.
 use mathlib.Core.Path.{◌≡◌, sym, ap, ◌∙◌}
-use mathlib.Core.Bool.{Bool, true, ◌&&◌}
+use mathlib.Core.Bool.{Bool, ◌&&◌}
 use mathlib.Core.List.{[], ◌∷◌}
 use borrow.Author.Tests.{not-true, not-false}
 use Rattle.pool_table.specs.Words.{pool_of}

@@ -1,5 +1,5 @@
-use mathlib.Core.Path.{◌≡◌, sym, ap, ◌∙◌}
-use mathlib.Core.Bool.{true, false≢true}
+use mathlib.Core.Path.{sym, ap, ◌∙◌}
+use mathlib.Core.Bool.{false≢true}
 use borrow.Author.Tests.{not-true, not-false}
 use Rattle.pool_table.specs.Ranges.{limits_in_range}
 use Rattle.pool_check.proofs.Parts.{no_limits, no_rows, no_txids, no_links, all_linked}
