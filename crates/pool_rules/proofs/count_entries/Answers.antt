@@ -1,6 +1,5 @@
 use mathlib.Core.Path.{◌≡◌, sym, ap, ◌∙◌}
-use mathlib.Core.Logic.{⊎_elim}
-use Prim.Native.Nat.{ℕ, ◌-◌, ◌≤◌}
+use Prim.Native.Nat.{ℕ}
 use native.Mathlib.Omega.{arith}
 use borrow.Author.Rules.{rules}
 use Rattle.lists.specs.Below.{bit, count_from}
@@ -9,25 +8,25 @@ use Rattle.pool_table.specs.Pool.{slot_count, occupied, entries}
 use Rattle.pool_table.specs.Words.{pool_of}
 use Rattle.pool_rules.proofs.Finds.{count_more}
 use Rattle.pool_rules.proofs.count_entries.Goals as goal
+use Rattle.pool_rules.proofs.count_entries.Goals.{then-is_occupied, else-is_occupied}
 
 pub loop-s-init : goal.loop-s-init
 unfolding count_from
 loop-s-init c = search rules
 
 pub overflow_add-count : goal.overflow_add-count
-overflow_add-count c = let head = c.before.before.before in
-    omega (arith, count_le (occupied (pool_of head.args.table.now)) head.loop-s.s 0)
+overflow_add-count c =
+    omega (arith, count_le (occupied (pool_of c.args.table.now)) c.loop-s.s 0)
 
 pub loop-s-preserved : goal.loop-s-preserved
-loop-s-preserved c = let o = c.before in
-    let head = o.before.before in
-    let f = occupied (pool_of head.args.table.now) in
-    let s = head.loop-s.s in (
+loop-s-preserved c =
+    let f = occupied (pool_of c.args.table.now) in
+    let s = c.loop-s.s in (
       search rules,
-      ⊎_elim
-          (λ w. omega (arith, count_more f s, ap bit (sym o.is_occupied.ensures ∙ w.0.taken)))
-          (λ w. omega (arith, count_more f s, ap bit (sym o.is_occupied.ensures ∙ w.0.left)))
-          c.if-is_occupied.branch,
+      elim c.if-is_occupied.branch [
+        | then-is_occupied w ↦ omega (arith, count_more f s, ap bit (sym c.is_occupied.ensures ∙ w.if-is_occupied.true))
+        | else-is_occupied w ↦ omega (arith, count_more f s, ap bit (sym c.is_occupied.ensures ∙ w.if-is_occupied.false))
+      ],
     )
 
 pub returns : goal.returns

@@ -1,13 +1,8 @@
-use mathlib.Core.Path.{◌≡◌, sym, ap, ◌∙◌}
-use mathlib.Core.Logic.{⊎_elim}
-use Prim.Native.Nat.{ℕ, ◌-◌, ◌≤◌}
-use native.Mathlib.Omega.{arith}
-use borrow.Author.Rules.{rules}
-use Rattle.lists.specs.Below.{bit, count_from}
-use Rattle.lists.proofs.Ranges.{count_le}
-use Rattle.pool_table.specs.Pool.{slot_count, occupied, entries}
+use mathlib.Core.Path.{◌≡◌}
+use Prim.Native.Nat.{◌-◌, ◌≤◌}
+use Rattle.lists.specs.Below.{count_from}
+use Rattle.pool_table.specs.Pool.{slot_count, occupied}
 use Rattle.pool_table.specs.Words.{pool_of}
-use Rattle.pool_rules.proofs.Finds.{count_more}
 use Rattle.pool_rules.proofs.count_entries.Given as goal
 
 abbrev pub invariant-loop-s : goal.invariant-loop-s

@@ -1,12 +1,8 @@
-use mathlib.Core.Path.{sym, ◌∙◌}
 use Prim.Native.Nat.{◌-◌, ◌≤◌}
-use native.Mathlib.Omega.{arith}
-use borrow.Author.Count.{below_none, below_more}
-use borrow.Author.Rules.{rules}
 use Rattle.pool_table.specs.Pool.{slot_count}
 use Rattle.pool_table.specs.Words.{pool_of}
 use Rattle.pool_rules.specs.Module8.{holds}
-use Rattle.pool_rules.proofs.Finds.{Missed, found_here, found_nowhere}
+use Rattle.pool_rules.proofs.Finds.{Missed}
 use Rattle.pool_rules.proofs.find.Given as goal
 
 abbrev pub invariant-loop-s : goal.invariant-loop-s

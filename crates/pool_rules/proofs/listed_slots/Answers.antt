@@ -1,12 +1,9 @@
-use mathlib.Core.Path.{◌≡◌, sym, ap, ◌∙◌}
-use Prim.Native.Nat.{◌-◌, ◌/◌, ◌≤◌}
+use mathlib.Core.Path.{sym, ap, ◌∙◌}
 use native.Mathlib.Omega.{arith}
 use lib.ListN.{length}
 use borrow.Author.Rules.{rules}
-use Rattle.slotsets.specs.SlotSets.{set_of}
 use Rattle.slotsets.proofs.SlotSets.{set_long}
-use Rattle.pool_table.specs.Words.{pool_of}
-use Rattle.pool_rules.proofs.Listed.{among, listed_start, listed_turn, listed_done}
+use Rattle.pool_rules.proofs.Listed.{listed_start, listed_turn, listed_done}
 use Rattle.pool_rules.proofs.listed_slots.Goals as goal
 
 pub loop-j-init : goal.loop-j-init
@@ -19,10 +16,8 @@ pub enter-requires : goal.enter-requires
 enter-requires c = ap length c.loop-j.invariant.1 ∙ set_long _
 
 pub loop-j-preserved : goal.loop-j-preserved
-loop-j-preserved c = let enter = c.before in
-    let at = enter.before in
-    let head = at.before.before.before in
-    (search rules, listed_turn _ _ _ head.loop-j.j _ _ _ head.loop-j.invariant.1 at.at.ensures enter.enter.ensures)
+loop-j-preserved c =
+    (search rules, listed_turn _ _ _ c.loop-j.j _ _ _ c.loop-j.invariant.1 c.at.ensures c.enter.ensures)
 
 pub returns : goal.returns
 returns c = listed_done _ _ _ c.loop-j.j _ (omega arith) c.loop-j.invariant.1

@@ -1,12 +1,9 @@
-use mathlib.Core.Path.{◌≡◌, sym, ap, ◌∙◌}
+use mathlib.Core.Path.{◌≡◌}
 use Prim.Native.Nat.{◌-◌, ◌/◌, ◌≤◌}
-use native.Mathlib.Omega.{arith}
 use lib.ListN.{length}
-use borrow.Author.Rules.{rules}
 use Rattle.slotsets.specs.SlotSets.{set_of}
-use Rattle.slotsets.proofs.SlotSets.{set_long}
 use Rattle.pool_table.specs.Words.{pool_of}
-use Rattle.pool_rules.proofs.Listed.{among, listed_start, listed_turn, listed_done}
+use Rattle.pool_rules.proofs.Listed.{among}
 use Rattle.pool_rules.proofs.listed_slots.Given as goal
 
 abbrev pub invariant-loop-j : goal.invariant-loop-j

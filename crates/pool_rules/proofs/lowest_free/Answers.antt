@@ -1,13 +1,10 @@
 use mathlib.Core.Path.{◌≡◌, sym, ap, ◌∙◌}
 use mathlib.Core.Bool.{not}
-use Prim.Native.Nat.{◌-◌, ◌≤◌}
 use native.Mathlib.Omega.{arith}
 use borrow.Author.Count.{below_none, below_more}
 use borrow.Author.Rules.{rules}
-use Rattle.pool_table.specs.Pool.{slot_count, occupied}
-use Rattle.pool_table.specs.Words.{pool_of}
 use Rattle.pool_rules.specs.Module8.{lowest_free}
-use Rattle.pool_rules.proofs.Finds.{Missed, first_here, first_none}
+use Rattle.pool_rules.proofs.Finds.{first_here, first_none}
 use Rattle.pool_rules.proofs.lowest_free.Goals as goal
 
 pub loop-slot-init : goal.loop-slot-init
@@ -15,12 +12,12 @@ loop-slot-init c = (search rules, below_none _)
 
 pub returns-then-not-is_occupied : goal.returns-then-not-is_occupied
 unfolding lowest_free
-returns-then-not-is_occupied c = let head = c.before.before.before in
-    sym (first_here _ _ head.loop-slot.slot (omega arith) head.loop-slot.invariant.1 (ap not (sym c.is_occupied.ensures) ∙ c.if-not-is_occupied.true))
+returns-then-not-is_occupied c =
+    sym (first_here _ _ c.loop-slot.slot (omega arith) c.loop-slot.invariant.1 (ap not (sym c.is_occupied.ensures ∙ c.if-not-is_occupied.true)))
 
 pub loop-slot-preserved : goal.loop-slot-preserved
-loop-slot-preserved c = let head = c.before.before.before in
-    (search rules, below_more _ head.loop-slot.slot head.loop-slot.invariant.1 (ap not (sym c.is_occupied.ensures) ∙ c.if-not-is_occupied.false))
+loop-slot-preserved c =
+    (search rules, below_more _ c.loop-slot.slot c.loop-slot.invariant.1 (ap not (sym c.is_occupied.ensures ∙ c.if-not-is_occupied.false)))
 
 pub returns : goal.returns
 unfolding lowest_free

@@ -1,13 +1,8 @@
-use mathlib.Core.Path.{◌≡◌, sym, ap, ◌∙◌}
 use mathlib.Core.Bool.{not}
 use Prim.Native.Nat.{◌-◌, ◌≤◌}
-use native.Mathlib.Omega.{arith}
-use borrow.Author.Count.{below_none, below_more}
-use borrow.Author.Rules.{rules}
 use Rattle.pool_table.specs.Pool.{slot_count, occupied}
 use Rattle.pool_table.specs.Words.{pool_of}
-use Rattle.pool_rules.specs.Module8.{lowest_free}
-use Rattle.pool_rules.proofs.Finds.{Missed, first_here, first_none}
+use Rattle.pool_rules.proofs.Finds.{Missed}
 use Rattle.pool_rules.proofs.lowest_free.Given as goal
 
 abbrev pub invariant-loop-slot : goal.invariant-loop-slot

@@ -29,9 +29,9 @@ slice_bounds-insert-end c = let a = c.args in
     omega (arith, row_end r, side_end a.side, c.offset.ensures)
 
 pub returns : goal.returns
-returns c = let e = c.before.before.before.before.before in
+returns c =
     let a = c.args in
-    let r = row_there a.table.now a.s e.row_of-at.ensures e.if-at-eq0.false in
+    let r = row_there a.table.now a.s c.row_of-at.ensures c.if-at-eq0.false in
     let i = c.insert in
     linked a.table.now i.new.set a.s r a.side a.b c.offset.result
     c.offset.ensures i.ensures.set_len_unchanged i.ensures.by_index (λ j. (c.type_inv.table j).fits)

@@ -28,20 +28,20 @@ slice_bounds-remove-end c = let a = c.args in
     omega (arith, row_end (row_there a.table.now a.s c.row_of-at.ensures c.if-at-eq0.false))
 
 pub offset_bounds-table-mid : goal.offset_bounds-table-mid
-offset_bounds-table-mid c = let e = c.before.before.before.before in
-    let a = e.args in
-    omega (arith, row_end (row_there a.table.now a.s e.row_of-at.ensures e.if-at-eq0.false))
+offset_bounds-table-mid c =
+    let a = c.args in
+    omega (arith, row_end (row_there a.table.now a.s c.row_of-at.ensures c.if-at-eq0.false))
 
 pub slice_bounds-remove-end-2 : goal.slice_bounds-remove-end-2
-slice_bounds-remove-end-2 c = let e = c.before.before.before.before in
-    let a = e.args in
-    let r = row_there a.table.now a.s e.row_of-at.ensures e.if-at-eq0.false in
+slice_bounds-remove-end-2 c =
+    let a = c.args in
+    let r = row_there a.table.now a.s c.row_of-at.ensures c.if-at-eq0.false in
     next_within a.table.now c.remove.new.set a.s r a.b c.remove.ensures.set_len_unchanged
 
 pub returns : goal.returns
-returns c = let e = c.before.before.before.before.before.before.before.before in
-    let a = e.args in
-    let r = row_there a.table.now a.s e.row_of-at.ensures e.if-at-eq0.false in
+returns c =
+    let a = c.args in
+    let r = row_there a.table.now a.s c.row_of-at.ensures c.if-at-eq0.false in
     let p = c.remove in
     let q = c.remove-2 in
     unlinked_both a.table.now p.new.set a.s r a.b p.ensures.set_len_unchanged q.new.set p.ensures.by_index
