@@ -7,7 +7,7 @@ use mathlib.Core.Path.{◌≡◌, refl, sym, ap, ap₂, ◌∙◌}
 use mathlib.Core.Bool.{Bool, true, false, ◌&&◌, and-false}
 use mathlib.Core.List.{List, [], ◌∷◌, ◌++◌, map}
 use lib.Dec.{leb}
-use lib.ListN.{length, take, drop, get_or, set, length-set, length-map, get_or-append}
+use lib.ListN.{length, take, drop, get_or, set, length-set, length-map}
 use lib.Seq.{drop-drop, get_or-take, length-take-le, ext_get_or}
 use lib.IntN.{ℤ, pos}
 use borrow.Author.Count.{below_none, below_more}

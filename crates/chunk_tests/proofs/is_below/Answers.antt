@@ -15,23 +15,19 @@ pub returns-then-minimum-eq0 : goal.returns-then-minimum-eq0
 returns-then-minimum-eq0 c = none_below _ c.args.rate c.if-minimum-eq0.true
 
 pub returns-then-rate-lt0 : goal.returns-then-rate-lt0
-returns-then-rate-lt0 c = let asked = c.before.before.before in
-    let r = asked.args.rate in
+returns-then-rate-lt0 c = let r = c.args.rate in
     let f : SFits w64 r.fee = search rules in
-    negative_below _ r asked.if-minimum-eq0.false (less f zero_fits c.if-rate-lt0.true)
+    negative_below _ r c.if-minimum-eq0.false (less f zero_fits c.if-rate-lt0.true)
 
 pub overflow_cast-rate : goal.overflow_cast-rate
-overflow_cast-rate c = let tested = c.before.before.before in
-    let f : SFits w64 tested.args.rate.fee = search rules in
-    cast f (not_less f zero_fits tested.if-rate-lt0.false)
+overflow_cast-rate c = let f : SFits w64 c.args.rate.fee = search rules in
+    cast f (not_less f zero_fits c.if-rate-lt0.false)
 
 pub returns : goal.returns
-returns c = let tested = c.before.before.before.before.before.before in
-    let asked = tested.before.before.before in
-    let r = asked.args.rate in
+returns c = let r = c.args.rate in
     let f : SFits w64 r.fee = search rules in
     c.is_below.ensures
     ∙ ap₂ ltb
     (c.mul_wide-paid.ensures ∙ ap (λ (z : ℤ). nat_abs z * 1000) (to_z-of_z f))
-    (c.mul_wide.ensures ∙ ap (λ (n : ℕ). asked.args.minimum * n) c.virtual_size-size.ensures)
-    ∙ fee_below asked.args.minimum r asked.if-minimum-eq0.false (not_less f zero_fits tested.if-rate-lt0.false)
+    (c.mul_wide.ensures ∙ ap (λ (n : ℕ). c.args.minimum * n) c.virtual_size-size.ensures)
+    ∙ fee_below c.args.minimum r c.if-minimum-eq0.false (not_less f zero_fits c.if-rate-lt0.false)

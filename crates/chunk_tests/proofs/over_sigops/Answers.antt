@@ -1,6 +1,5 @@
 -- `over_sigops`: the reserve goes off the limit first. Assumes nothing.
 use mathlib.Core.Path.{◌∙◌}
-use borrow.Author.Rules.{rules}
 use Rattle.chunk_tests.proofs.Limits.{sigops_first, sigops_rest}
 use Rattle.chunk_tests.proofs.over_sigops.Goals as goal
 

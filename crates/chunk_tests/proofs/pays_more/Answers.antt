@@ -10,12 +10,10 @@ use Rattle.chunk_tests.proofs.Pays.{pays_asked}
 use Rattle.chunk_tests.proofs.pays_more.Goals as goal
 
 pub returns : goal.returns
-returns c = let second = c.before.before.before.before in
-    let start = second.before.before in
-    let a = start.args.a in
-    let b = start.args.b in
+returns c = let a = c.args.a in
+    let b = c.args.b in
     let fa : SFits w64 a.fee = search rules in
     let fb : SFits w64 b.fee = search rules in
     rw (to_z-of_z fa, to_z-of_z fb)
-    (ap₂ (λ (x y : Bool). x || (not y && lt_z b.fee a.fee)) second.higher_rate-above.ensures second.higher_rate-below.ensures
+    (ap₂ (λ (x y : Bool). x || (not y && lt_z b.fee a.fee)) c.higher_rate-above.ensures c.higher_rate-below.ensures
     ∙ sym (pays_asked a b))

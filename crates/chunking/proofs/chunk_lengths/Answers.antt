@@ -2,58 +2,70 @@ use native.Mathlib.Omega.{arith}
 use mathlib.Core.Path.{refl, ap, ◌∙◌}
 use mathlib.Core.Bool.{not}
 use mathlib.Core.List.{List}
-use borrow.Author.Rules.{rules}
 use borrow.Author.Tests.{eq-eqb, ne_eqb, lt-ltb, le-ltb}
 use Rattle.txset.specs.Sets.{positions}
-use Rattle.refusals.specs.Refusals.{Line, success}
+use Rattle.refusals.specs.Refusals.{success}
 use Rattle.refusals.proofs.Laws.{outside_some, outside_none}
-use Rattle.refusals.proofs.Lines.{Past, none_past, past, stop, all_past, refuses_keeps, succeeds_writes}
+use Prim.Native.Nat.{ℕ, ◌≤◌}
+use mathlib.Core.Path.{◌≡◌}
+use lib.ListN.{length}
+use lib.IntN.{ℤ}
+use Rattle.refusals.proofs.Lines.{refuses, keeps, succeeds, writes, Past, none_past, past, stop, all_past}
 use Rattle.chunking.specs.Chunks.{refusals, reply, room_after}
 use Rattle.chunking.proofs.chunk_lengths.Goals as goal
-use Rattle.chunking.proofs.chunk_lengths.Goals.{After-slice_known-1, Else-fees-gt-POSITIONS, Else-fees-sizes, Else-room-fees}
-
-abbrev lines : After-slice_known-1 → List Line
-lines k = let a = k.args in refusals a.fees.now a.sizes.now a.room.now
 
 -- the tests that were passed
-past_0 : (k : After-slice_known-1) → Past (lines k) 0
-unfolding refusals
-past_0 k = none_past refl
+module _ (fs : List ℤ) (ss room : List ℕ) where
+  past_0 : Past (refusals fs ss room) 0
+  unfolding refusals
+  past_0 = none_past refl
 
-past_1 : (e : Else-fees-sizes) → Past (lines e.before) 1
-unfolding refusals
-past_1 e = past (past_0 e.before) (ap not (eq-eqb _ _ e.if-fees-sizes.false))
+  module _ (same : length fs ≡ length ss) where
+    past_1 : Past (refusals fs ss room) 1
+    unfolding refusals
+    past_1 = past past_0 (ap not (eq-eqb _ _ same))
 
-past_2 : (e : Else-fees-gt-POSITIONS) → Past (lines e.before.before) 2
-unfolding refusals
-past_2 e = past (past_1 e.before) (le-ltb positions _ e.if-fees-gt-POSITIONS.false)
+    module _ (few : length fs ≤ positions) where
+      past_2 : Past (refusals fs ss room) 2
+      unfolding refusals
+      past_2 = past past_1 (le-ltb positions _ few)
 
-past_3 : (e : Else-room-fees) → Past (lines e.before.before.before) 3
-unfolding refusals
-past_3 e = past (past_2 e.before) (le-ltb _ _ e.if-room-fees.false)
+      past_3 : length fs ≤ length room → Past (refusals fs ss room) 3
+      unfolding refusals
+      past_3 wide = past past_2 (le-ltb _ _ wide)
 
 pub returns-then-fees-sizes : goal.returns-then-fees-sizes
 unfolding reply room_after refusals
-returns-then-fees-sizes c = refuses_keeps _ _ _ _ (stop (past_0 c.before.before) (ap not (ne_eqb _ _ c.if-fees-sizes.true))) c.refused.ensures
+returns-then-fees-sizes c =
+    let gives = stop (past_0 _ _ _) (ap not (ne_eqb _ _ c.if-fees-sizes.true)) in
+    record { value = refuses _ _ gives c.refused.ensures; room_after = keeps _ _ gives }
 
 pub returns-then-fees-gt-POSITIONS : goal.returns-then-fees-gt-POSITIONS
 unfolding reply room_after refusals
-returns-then-fees-gt-POSITIONS c = refuses_keeps _ _ _ _ (stop (past_1 c.before.before) (lt-ltb positions _ c.if-fees-gt-POSITIONS.true)) c.refused-then-fees-gt-POSITIONS.ensures
+returns-then-fees-gt-POSITIONS c =
+    let gives = stop (past_1 _ _ _ c.if-fees-sizes.false) (lt-ltb positions _ c.if-fees-gt-POSITIONS.true) in
+    record { value = refuses _ _ gives c.refused-then-fees-gt-POSITIONS.ensures; room_after = keeps _ _ gives }
 
 pub returns-then-room-fees : goal.returns-then-room-fees
 unfolding reply room_after refusals
-returns-then-room-fees c = refuses_keeps _ _ _ _ (stop (past_2 c.before.before) (lt-ltb _ _ c.if-room-fees.true)) c.refused-then-room-fees.ensures
+returns-then-room-fees c =
+    let gives = stop (past_2 _ _ _ c.if-fees-sizes.false c.if-fees-gt-POSITIONS.false) (lt-ltb _ _ c.if-room-fees.true) in
+    record { value = refuses _ _ gives c.refused-then-room-fees.ensures; room_after = keeps _ _ gives }
 
 pub returns-then-first_outside-fees : goal.returns-then-first_outside-fees
 unfolding reply room_after refusals
-returns-then-first_outside-fees c = let o = c.before.before in
-    refuses_keeps _ _ _ _ (stop (past_3 o.before) (outside_some _ (omega (arith, o.first_outside.ensures)))) c.refused-then-first_outside-fees.ensures
+returns-then-first_outside-fees c =
+    let outside = outside_some _ (omega (arith, c.first_outside.ensures)) in
+    let gives = stop (past_3 _ _ _ c.if-fees-sizes.false c.if-fees-gt-POSITIONS.false c.if-room-fees.false) outside in
+    record { value = refuses _ _ gives c.refused-then-first_outside-fees.ensures; room_after = keeps _ _ gives }
 
 pub returns : goal.returns
 unfolding reply room_after refusals
-returns c = let w = c.before.before.before in
-    let o = w.before.before.before in
-    let n = w.write_chunks.ensures.value in
-    succeeds_writes _ _ _ _ (all_past (past (past_3 o.before) (outside_none _ (omega (arith, o.first_outside.ensures)))) refl)
-    (c.wrote.ensures ∙ ap success n)
-    (rw n at w.write_chunks.ensures.room_after)
+returns c =
+    let n = c.write_chunks.ensures.value in
+    let inside = outside_none _ (omega (arith, c.first_outside.ensures)) in
+    let takes = all_past (past (past_3 _ _ _ c.if-fees-sizes.false c.if-fees-gt-POSITIONS.false c.if-room-fees.false) inside) refl in
+    record {
+      value = succeeds _ _ takes (c.wrote.ensures ∙ ap success n);
+      room_after = writes _ _ takes (rw n at c.write_chunks.ensures.room_after);
+    }

@@ -1,7 +1,6 @@
 use Prim.Native.Nat.{◌-◌}
 use lib.ListN.{length}
-use borrow.Author.Rules.{rules}
-use Rattle.chunking.proofs.Orders.{Gathering, gather_start, gather_turn, gather_done}
+use Rattle.chunking.proofs.Orders.{Gathering}
 use Rattle.chunking.proofs.gather.Given as goal
 
 abbrev pub invariant-loop-k : goal.invariant-loop-k

@@ -1,15 +1,11 @@
 use Prim.Native.Nat.{◌≤◌, ◌-◌}
-use native.Mathlib.Omega.{arith}
-use mathlib.Core.Path.{◌≡◌, sym, refl, ◌∙◌}
-use mathlib.Core.List.{◌∷◌, ◌++◌}
-use mathlib.Core.Logic.{⊎_elim}
+use mathlib.Core.Path.{◌≡◌}
+use mathlib.Core.List.{◌++◌}
 use lib.ListN.{length, drop, get_or}
-use borrow.Author.Rules.{rules}
-use borrow.Author.Tests.{not-true, not-false}
 use Rattle.feefrac.specs.Rate.{zero_rate}
-use Rattle.chunking.specs.Chunks.{alone, swallow, lengths_of, rates}
-use Rattle.chunking.proofs.Laws.{length_rates, rates_at, stk, Outer, outer_start, outer_push, copy_turn, copied_length}
-use Rattle.chunking.proofs.Laws.{lengths_done, count_done, Inner, inner_start, join_len, inner_turn, stopped_empty, stopped_top}
+use Rattle.chunking.specs.Chunks.{alone, lengths_of, rates}
+use Rattle.chunking.proofs.Laws.{stk, Outer}
+use Rattle.chunking.proofs.Laws.{Inner}
 use Rattle.chunking.proofs.stack_chunks.Given as goal
 
 abbrev pub invariant-loop-count : goal.invariant-loop-count

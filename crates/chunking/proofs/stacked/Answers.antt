@@ -1,4 +1,6 @@
 use borrow.Author.Rules.{rules}
+use lib.ListN.{get_or}
+use lib.IntN.{pos}
 use mir.Syntax.{w64}
 use mir.ValLaws.{to_z-of_z}
 use Rattle.feefrac.specs.Rate.{rate_at}
@@ -6,4 +8,4 @@ use Rattle.chunking.proofs.stacked.Goals as goal
 
 pub returns : goal.returns
 unfolding rate_at
-returns c = rw (to_z-of_z w64 _ (record { sfits = c.fee-1.given }))
+returns c = rw (to_z-of_z w64 (get_or c.args.sum_fees.now c.args.k (pos 0)) (search rules))

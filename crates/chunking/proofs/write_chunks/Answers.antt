@@ -1,13 +1,11 @@
-use borrow.Author.Rules.{rules}
 use Rattle.chunking.proofs.write_chunks.Goals as goal
 
 pub stack_chunks-requires : goal.stack_chunks-requires
-stack_chunks-requires c = let t = c.before.before.before.before in
-    let h = t.requires in record {
-      fees_len = h.fees_len;
-      stack = record { few = h.fees_len_bound; fees = t.if-fees-le-FEW.true; sizes = t.if-fees-le-FEW.true; lens = t.if-fees-le-FEW.true };
-      fees_in_bounds = h.fees_in_bounds;
-    }
+stack_chunks-requires c = let h = c.requires in record {
+  fees_len = h.fees_len;
+  stack = record { few = h.fees_len_bound; fees = c.if-fees-le-FEW.true; sizes = c.if-fees-le-FEW.true; lens = c.if-fees-le-FEW.true };
+  fees_in_bounds = h.fees_in_bounds;
+}
 
 pub stack_chunks-requires-2 : goal.stack_chunks-requires-2
 stack_chunks-requires-2 c = let h = c.requires in record {

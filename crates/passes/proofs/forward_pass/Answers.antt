@@ -1,4 +1,3 @@
-use borrow.Author.Rules.{rules}
 use borrow.Author.Tests.{le-leb, lt-leb}
 use Rattle.txset.specs.Sets.{positions}
 use Rattle.passes.specs.Pass.{forward_pass}
@@ -9,4 +8,5 @@ pub returns-then-order-gt-POSITIONS : goal.returns-then-order-gt-POSITIONS
 returns-then-order-gt-POSITIONS c = rw (lt-leb _ positions c.if-order-gt-POSITIONS.true)
 
 pub returns : goal.returns
-returns c = let pass = c.before.before in rw (le-leb _ positions pass.if-order-gt-POSITIONS.false) pass.one_pass.ensures
+unfolding forward_pass turned
+returns c = rw (le-leb _ positions c.if-order-gt-POSITIONS.false) c.one_pass.ensures

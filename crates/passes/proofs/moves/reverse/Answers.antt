@@ -1,9 +1,7 @@
-use Prim.Native.Nat.{◌-◌, ◌/◌}
 use mathlib.Core.Path.{refl}
 use native.Mathlib.Omega.{arith}
-use borrow.Author.Rules.{rules}
 use lib.ListN.{length-set}
-use Rattle.passes.proofs.Turns.{Half, half_start, half_turn, half_done}
+use Rattle.passes.proofs.Turns.{half_start, half_turn, half_done}
 use Rattle.passes.proofs.moves.reverse.Goals as goal
 
 pub loop-i-init : goal.loop-i-init
@@ -13,8 +11,7 @@ pub bounds-list-j-in-loop-i : goal.bounds-list-j-in-loop-i
 bounds-list-j-in-loop-i c = simp length-set (omega arith)
 
 pub loop-i-preserved : goal.loop-i-preserved
-loop-i-preserved c = let loop = c.before.before.before in
-    half_turn loop.loop-i.invariant _ refl c.loop-i-test.true
+loop-i-preserved c = half_turn c.loop-i.invariant _ refl c.loop-i-test.true
 
 pub shape_of-list : goal.shape_of-list
 shape_of-list c = c.loop-i.invariant.same

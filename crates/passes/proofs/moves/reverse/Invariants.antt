@@ -1,9 +1,5 @@
 use Prim.Native.Nat.{◌-◌, ◌/◌}
-use mathlib.Core.Path.{refl}
-use native.Mathlib.Omega.{arith}
-use borrow.Author.Rules.{rules}
-use lib.ListN.{length-set}
-use Rattle.passes.proofs.Turns.{Half, half_start, half_turn, half_done}
+use Rattle.passes.proofs.Turns.{Half}
 use Rattle.passes.proofs.moves.reverse.Given as goal
 
 abbrev pub invariant-loop-i : goal.invariant-loop-i

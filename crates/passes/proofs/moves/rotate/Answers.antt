@@ -14,8 +14,5 @@ pub slice_bounds-reverse-end-2 : goal.slice_bounds-reverse-end-2
 slice_bounds-reverse-end-2 c = sym (length-take-le _ _ (search rules))
 
 pub returns : goal.returns
-returns c = let three = c.before.before in
-    let two = three.before.before.before.before in
-    let one = two.before.before.before.before in
-    let args = one.args in
-    rotated args.list.now _ _ _ args.count _ (search rules) one.reverse.ensures refl two.reverse-2.ensures three.reverse-3.ensures
+returns c = let args = c.args in
+    rotated args.list.now _ _ _ args.count _ (search rules) c.reverse.ensures refl c.reverse-2.ensures c.reverse-3.ensures

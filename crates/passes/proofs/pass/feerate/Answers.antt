@@ -1,5 +1,4 @@
 use mathlib.Core.Path.{◌∙◌, ap}
-use borrow.Author.Rules.{rules}
 use Rattle.feefrac.specs.Rate.{negated}
 use Rattle.passes.specs.Turned.{turned}
 use Rattle.passes.proofs.pass.feerate.Goals as goal

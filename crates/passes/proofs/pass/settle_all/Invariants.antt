@@ -1,17 +1,10 @@
-use Prim.Native.Nat.{◌+◌, ◌*◌, ◌-◌, ◌≤◌, ◌<◌}
-use mathlib.Core.Logic.{⊎_elim}
-use mathlib.Core.Path.{◌≡◌, refl, sym, ap, ◌∙◌}
-use native.Mathlib.Omega.{arith}
-use lib.ListN.{length}
-use borrow.Author.Rules.{rules}
-use borrow.Author.Tests.{not-true, not-false}
+use Prim.Native.Nat.{◌-◌}
 use Rattle.passes.specs.Summary.{row_at}
 use Rattle.passes.specs.Turned.{turned}
-use Rattle.passes.proofs.Groups.{single_stands}
-use Rattle.passes.proofs.Rows.{Shelf, shelf_kept, shelf_stored}
-use Rattle.passes.proofs.Scan.{Outer, outer_start, outer_next, outer_again, outer_done}
-use Rattle.passes.proofs.Scan.{Inner, inner_start, inner_len, inner_merge, inner_step, inner_placed, inner_lies, inner_same}
-use Rattle.passes.proofs.Scan.{Stopped, at_bottom, at_top, stopped_at, Moved, moved_start, moved_turn, back_done}
+use Rattle.passes.proofs.Rows.{Shelf}
+use Rattle.passes.proofs.Scan.{Outer}
+use Rattle.passes.proofs.Scan.{Inner}
+use Rattle.passes.proofs.Scan.{Moved}
 use Rattle.passes.proofs.pass.settle_all.Given as goal
 
 abbrev pub invariant-loop-count : goal.invariant-loop-count
