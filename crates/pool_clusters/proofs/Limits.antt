@@ -9,15 +9,13 @@ use native.Mathlib.Omega.{arith}
 use lib.Dec.{eqb, ltb, leb}
 use lib.ListN.{length}
 use borrow.Author.Count.{below_more}
-use borrow.Author.Tests.{lt-ltb, le-leb, lt-leb, leb-true, eq-eqb}
+use borrow.Author.Tests.{le-leb, lt-leb, leb-true, eq-eqb}
 use Rattle.lists.proofs.Bools.{clash, and_both, and_left, or_either, is_false}
 use Rattle.lists.proofs.Numbers.{flip}
 use Rattle.lists.proofs.Below.{count_ext, count_without, all_at, at_all}
 use Rattle.txset.specs.Sets.{has_in}
-use Rattle.slotsets.specs.SlotSets.{capacity, set_words, span, set_of}
-use Rattle.slotsets.proofs.SlotSets.{has_in_set}
+use Rattle.slotsets.specs.SlotSets.{set_words, span}
 use Rattle.weights.specs.Weights.{most, virtual_size}
-use Rattle.weights.specs.declared.RawWeight.{RawWeight}
 use Rattle.lists.proofs.Ranges.{count_within, count_none}
 use Rattle.ways.proofs.Cycles.{onward_trans}
 use Rattle.pool_table.specs.declared.Limits.{Limits}
@@ -28,7 +26,6 @@ use Rattle.pool_table.specs.WellFormed.{is_within, clusters_within}
 use Rattle.pool_clusters.specs.declared.Union.{Union}
 use Rattle.pool_clusters.specs.declared.Part.{Part}
 use Rattle.pool_clusters.specs.Clusters.{union_of, Gathered}
-use Rattle.pool_clusters.proofs.Words.{seed_one}
 use Rattle.pool_clusters.proofs.Reached.{reached_one, onward_lone}
 use Rattle.pool_clusters.proofs.Sums.{sum_ext, sum_none, sum_within, sum_without}
 use Rattle.pool_clusters.proofs.Linked.{linked_none, linked_bounded, cluster_onward, clusters_reached}

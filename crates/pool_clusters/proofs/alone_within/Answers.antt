@@ -1,6 +1,4 @@
-use mathlib.Core.Path.{sym, ap, ap₂, ◌∙◌}
-use Prim.Native.Nat.{ℕ}
-use borrow.Author.Rules.{rules}
+use mathlib.Core.Path.{ap, ap₂, ◌∙◌}
 use lib.Dec.{leb}
 use Rattle.weights.specs.Weights.{virtual_size}
 use Rattle.weights.specs.declared.RawWeight.{RawWeight}
@@ -8,7 +6,6 @@ use Rattle.pool_table.specs.declared.Limits.{Limits}
 use Rattle.pool_clusters.proofs.alone_within.Goals as goal
 
 pub returns : goal.returns
-returns c = let size = c.before in
-    let weight = size.before in
-    ap₂ leb (size.virtual_size.ensures ∙ ap (λ (w : RawWeight). virtual_size w.0) weight.weight.ensures)
-    (ap (λ (l : Limits). l.size) weight.of-limits.ensures)
+returns c =
+    ap₂ leb (c.virtual_size.ensures ∙ ap (λ (w : RawWeight). virtual_size w.0) c.weight.ensures)
+    (ap (λ (l : Limits). l.size) c.of-limits.ensures)

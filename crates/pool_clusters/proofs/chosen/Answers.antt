@@ -1,11 +1,9 @@
 use mathlib.Core.Bool.{Bool, ◌&&◌, and-false}
 use mathlib.Core.Path.{sym, ap, ◌∙◌}
-use Prim.Native.Nat.{◌-◌}
 use native.Mathlib.Omega.{arith}
-use borrow.Author.Rules.{rules}
 use Rattle.txset.specs.Sets.{has_in}
 use Rattle.txset.proofs.Words.{has_in_past, has_in_zeros}
-use Rattle.slotsets.proofs.Words.{Upto, upto_start, upto_turn, upto_done}
+use Rattle.slotsets.proofs.Words.{upto_start, upto_turn, upto_done}
 use Rattle.slotsets.proofs.SlotSets.{set_past}
 use Rattle.pool_clusters.proofs.Words.{meet_word}
 use Rattle.pool_clusters.proofs.chosen.Goals as goal
@@ -14,21 +12,17 @@ pub loop-j-init : goal.loop-j-init
 loop-j-init c = upto_start _ _
 
 pub returns-then-seeds-j : goal.returns-then-seeds-j
-returns-then-seeds-j c = let head = c.before.before in
-    let args = head.args in
-    upto_done head.loop-j.invariant
+returns-then-seeds-j c = let args = c.args in
+    upto_done c.loop-j.invariant
     (λ i l.
     ap (λ (b : Bool). has_in args.all.now i && b) (has_in_past args.seeds.now i (omega (arith, c.if-seeds-j.true)))
     ∙ and-false (has_in args.all.now i) ∙ sym (has_in_zeros 16 i))
 
 pub loop-j-preserved : goal.loop-j-preserved
-loop-j-preserved c = let head = c.before.before.before.before in
-    let args = head.args in
-    upto_turn head.loop-j.invariant _ c.loop-j-test.true (meet_word args.all.now args.seeds.now head.loop-j.j)
+loop-j-preserved c = upto_turn c.loop-j.invariant _ c.loop-j-test.true (meet_word c.args.all.now c.args.seeds.now c.loop-j.j)
 
 pub returns : goal.returns
-returns c = let start = c.before.before in
-    upto_done c.loop-j.invariant
+returns c = upto_done c.loop-j.invariant
     (λ i l.
-    ap (λ (b : Bool). b && has_in start.args.seeds.now i) (set_past start.args.all.now start.requires i (omega (arith, c.loop-j-test.false)))
+    ap (λ (b : Bool). b && has_in c.args.seeds.now i) (set_past c.args.all.now c.requires i (omega (arith, c.loop-j-test.false)))
     ∙ sym (has_in_zeros 16 i))

@@ -1,13 +1,7 @@
-use mathlib.Core.Bool.{Bool, ◌&&◌, and-false}
-use mathlib.Core.Path.{sym, ap, ◌∙◌}
+use mathlib.Core.Bool.{◌&&◌}
 use Prim.Native.Nat.{◌-◌}
-use native.Mathlib.Omega.{arith}
-use borrow.Author.Rules.{rules}
 use Rattle.txset.specs.Sets.{has_in}
-use Rattle.txset.proofs.Words.{has_in_past, has_in_zeros}
-use Rattle.slotsets.proofs.Words.{Upto, upto_start, upto_turn, upto_done}
-use Rattle.slotsets.proofs.SlotSets.{set_past}
-use Rattle.pool_clusters.proofs.Words.{meet_word}
+use Rattle.slotsets.proofs.Words.{Upto}
 use Rattle.pool_clusters.proofs.chosen.Given as goal
 
 abbrev pub invariant-loop-j : goal.invariant-loop-j

@@ -1,5 +1,5 @@
 -- `cluster_within`: nothing where there is no such cluster, or it is too many or too large; else what the search found. Assumes nothing.
-use mathlib.Core.Path.{◌≡◌, refl, sym, ap, ap₂, ◌∙◌, subst}
+use mathlib.Core.Path.{◌≡◌, sym, ap, ap₂, ◌∙◌, subst}
 use mathlib.Core.Bool.{Bool, true, false, ◌&&◌, and-false}
 use mathlib.Core.List.{List}
 use Prim.Native.Nat.{ℕ, ◌≤◌, ◌<◌}
@@ -19,7 +19,7 @@ use Rattle.pool_clusters.specs.Clusters.{Gathered}
 use Rattle.pool_clusters.proofs.Words.{all_slots}
 use Rattle.pool_clusters.proofs.Limits.{size_small, too_many, too_heavy, stands}
 use Rattle.pool_clusters.proofs.cluster_within.Goals as goal
-use Rattle.pool_clusters.proofs.cluster_within.Goals.{After-cluster-part, Else-n-a, Else-not-part, Start}
+use Rattle.pool_clusters.proofs.cluster_within.Goals.{After-cluster-part, Else-n-a}
 
 -- ---- what is asked of a slot's cluster
 
@@ -42,107 +42,87 @@ module _ (t : List ℕ) (a : ℕ) where
 
 -- ---- a legal length, limits in their ranges, a slot
 
-abbrev start : Else-n-a → Start
-start e = e.before.before.before.before.before.before.before.before
-
 abbrev pool : Else-n-a → Pool
-pool e = pool_of (start e).args.table.now
+pool e = pool_of e.args.table.now
 
-legal : (e : Else-n-a) → is_legal (length (start e).args.table.now) ≡ true
-legal e =
-    let else = e.before.before.before.before.before in
-    sym else.is_legal.ensures ∙ not-false else.is_legal.result else.if-not-is_legal.false
+legal : (e : Else-n-a) → is_legal (length e.args.table.now) ≡ true
+legal e = sym e.is_legal.ensures ∙ e.if-not-is_legal.false
 
 limits_are : (e : Else-n-a) → e.of-limits.result ≡ (pool e).limits
 limits_are e = e.of-limits.ensures
 
 ranged : (e : Else-n-a) → limits_in_range (pool e).limits ≡ true
-ranged e =
-    let else = e.before.before in
-    ap limits_in_range (sym (limits_are e)) ∙ sym else.in_range.ensures ∙ not-false else.in_range.result else.if-not-in_range.false
+ranged e = ap limits_in_range (sym (limits_are e)) ∙ sym e.in_range.ensures ∙ e.if-not-in_range.false
 
-inside : (e : Else-n-a) → (start e).args.a < slot_count (pool e)
+inside : (e : Else-n-a) → e.args.a < slot_count (pool e)
 inside e = omega (arith, e.if-n-a.false, e.slots-n.ensures)
 
 -- so the answer is that of the cluster
-answer : (e : Else-n-a) (x : Bool) → is_within (pool e) (in_cluster (pool e) (start e).args.a) ≡ x
-    → x ≡ asked (start e).args.table.now (start e).args.a
-answer e x h = sym (ap₂ ◌&&◌ (legal e) (ap₂ ◌&&◌ (ranged e) (ap₂ ◌&&◌ (lt-ltb (start e).args.a (slot_count (pool e)) (inside e)) h)))
+answer : (e : Else-n-a) (x : Bool) → is_within (pool e) (in_cluster (pool e) e.args.a) ≡ x
+    → x ≡ asked e.args.table.now e.args.a
+answer e x h = sym (ap₂ ◌&&◌ (legal e) (ap₂ ◌&&◌ (ranged e) (ap₂ ◌&&◌ (lt-ltb e.args.a (slot_count (pool e)) (inside e)) h)))
 
 -- ---- what the search says
 
-abbrev slot_of : After-cluster-part → Else-n-a
-slot_of k = k.before.before.before
-
-gathered : (k : After-cluster-part)
-    → Gathered (pool (slot_of k)) (in_cluster (pool (slot_of k)) (start (slot_of k)).args.a) (pool (slot_of k)).limits.count k.cluster-part.result
+gathered : (k : After-cluster-part) → let p = pool_of k.args.table.now in
+    Gathered p (in_cluster p k.args.a) p.limits.count k.cluster-part.result
 gathered k =
-    let e = slot_of k in
-    subst (λ (l : Limits). Gathered (pool e) (in_cluster (pool e) (start e).args.a) l.count k.cluster-part.result) (limits_are e)
+    let p = pool_of k.args.table.now in
+    subst (λ (l : Limits). Gathered p (in_cluster p k.args.a) l.count k.cluster-part.result) k.of-limits.ensures
     k.cluster-part.ensures
 
 -- ---- the needs
 
 pub returns-then-not-is_legal : goal.returns-then-not-is_legal
-returns-then-not-is_legal c = let args = c.args in
-    let illegal = sym c.is_legal.ensures ∙ not-true c.is_legal.result c.if-not-is_legal.true in record {
-      within_value = no_length args.table.now args.a illegal;
-      by_index = has_in_zeros 16;
-    }
+returns-then-not-is_legal c = record {
+  within_value = no_length c.args.table.now c.args.a (sym c.is_legal.ensures ∙ c.if-not-is_legal.true);
+  by_index = has_in_zeros 16;
+}
 
 pub returns-then-not-in_range : goal.returns-then-not-in_range
-returns-then-not-in_range c = let args = c.args in record {
-  within_value = no_limits args.table.now args.a
-      (ap limits_in_range (sym c.of-limits.ensures)
-      ∙ sym c.in_range.ensures
-      ∙ not-true c.in_range.result c.if-not-in_range.true);
+returns-then-not-in_range c = record {
+  within_value = no_limits c.args.table.now c.args.a
+      (ap limits_in_range (sym c.of-limits.ensures) ∙ sym c.in_range.ensures ∙ c.if-not-in_range.true);
   by_index = has_in_zeros 16;
 }
 
 pub returns-then-n-a : goal.returns-then-n-a
-returns-then-n-a c = let args = c.args in record {
-  within_value = no_slot args.table.now args.a (omega (arith, c.if-n-a.true, c.slots-n.ensures));
+returns-then-n-a c = record {
+  within_value = no_slot c.args.table.now c.args.a (omega (arith, c.if-n-a.true, c.slots-n.ensures));
   by_index = has_in_zeros 16;
 }
 
 pub cluster-part-requires : goal.cluster-part-requires
-cluster-part-requires c = let all = c.before in
-    let e = all.before in
-    let t = (start e).args.table.now in record {
-      all_slots = all_slots t all.below-all.result e.slots-n.result (legal e) e.slots-n.ensures (search rules) all.below-all.ensures;
-      a_bound = inside e;
-    }
+cluster-part-requires c = let e = (goal.at.cluster-part-requires c).Else-n-a in record {
+  all_slots = all_slots c.args.table.now c.below-all.result c.slots-n.result (legal e) c.slots-n.ensures (search rules) c.below-all.ensures;
+  a_bound = inside e;
+}
 
 pub returns-then-not-part : goal.returns-then-not-part
-returns-then-not-part c = let k = c.before.before in record {
-  within_value = answer (slot_of k) false (too_many _ _ k.cluster-part.result (gathered k) (not-true k.cluster-part.result.whole c.if-not-part.true));
+returns-then-not-part c = let at = goal.at.returns-then-not-part c in record {
+  within_value = answer at.Else-n-a false (too_many _ _ c.cluster-part.result (gathered at.After-cluster-part) (not-true _ c.if-not-part.true));
   by_index = has_in_zeros 16;
 }
 
 pub overflow_mul-most : goal.overflow_mul-most
-overflow_mul-most c = let e = slot_of c.before.before.before in
+overflow_mul-most c = let e = (goal.at.overflow_mul-most c).Else-n-a in
     omega (arith, ap (λ (l : Limits). l.size) (limits_are e), size_small (pool e).limits (ranged e))
 
-whole : (c : Else-not-part) → c.cluster-part.result.whole ≡ true
-whole c = not-false c.cluster-part.result.whole c.if-not-part.false
-
 pub returns-then-most-part : goal.returns-then-most-part
-returns-then-most-part c = let else = c.before.before.before in
-    let k = else.before.before in
-    let e = slot_of k in record {
+returns-then-most-part c = let at = goal.at.returns-then-most-part c in
+    let e = at.Else-n-a in record {
       within_value = answer e false
-          (too_heavy _ _ k.cluster-part.result (gathered k) (size_small (pool e).limits (ranged e)) (whole else)
+          (too_heavy _ _ c.cluster-part.result (gathered at.After-cluster-part) (size_small (pool e).limits (ranged e)) (not-false _ c.if-not-part.false)
           (omega (arith, c.if-most-part.true, ap (λ (l : Limits). l.size) (limits_are e))));
       by_index = has_in_zeros 16;
     }
 
 pub returns : goal.returns
-returns c = let light = c.before in
-    let else = light.before.before.before in
-    let k = else.before.before in
-    let e = slot_of k in record {
+returns c = let at = goal.at.returns c in
+    let e = at.Else-n-a in
+    let k = at.After-cluster-part in record {
       within_value = answer e true
-          (stands _ _ k.cluster-part.result (gathered k) (size_small (pool e).limits (ranged e)) (whole else)
-          (omega (arith, light.if-most-part.false, ap (λ (l : Limits). l.size) (limits_are e))));
-      by_index = (gathered k).found-1 (whole else);
+          (stands _ _ c.cluster-part.result (gathered k) (size_small (pool e).limits (ranged e)) (not-false _ c.if-not-part.false)
+          (omega (arith, c.if-most-part.false, ap (λ (l : Limits). l.size) (limits_are e))));
+      by_index = (gathered k).found (not-false _ c.if-not-part.false);
     }

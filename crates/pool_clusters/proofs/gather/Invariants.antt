@@ -1,17 +1,7 @@
-use mathlib.Core.Path.{◌≡◌, refl, ap, ◌∙◌}
-use mathlib.Core.Bool.{Bool, not, ◌&&◌, ◌||◌}
-use Prim.Native.Nat.{◌+◌, ◌-◌, ◌≤◌, min}
-use native.Mathlib.Omega.{arith}
-use borrow.Author.Rules.{rules}
-use Rattle.txset.specs.Sets.{has_in}
-use Rattle.slotsets.specs.SlotSets.{capacity, lowest_in}
-use Rattle.slotsets.proofs.Words.{lowest_has}
-use Rattle.weights.specs.Weights.{most}
-use Rattle.weights.specs.declared.RawWeight.{RawWeight}
-use Rattle.pool_table.specs.Pool.{slot_count}
+use Prim.Native.Nat.{◌-◌}
+use Rattle.slotsets.specs.SlotSets.{capacity}
 use Rattle.pool_table.specs.Words.{pool_of}
-use Rattle.pool_table.specs.Links.{is_linked}
-use Rattle.pool_clusters.proofs.Gathering.{Gathering, Turned, gather_start, gather_turn, gather_less, gather_all, gather_more, slots_few}
+use Rattle.pool_clusters.proofs.Gathering.{Gathering}
 use Rattle.pool_clusters.proofs.gather.Given as goal
 
 abbrev pub invariant-loop-todo : goal.invariant-loop-todo
