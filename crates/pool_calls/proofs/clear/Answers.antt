@@ -1,6 +1,5 @@
 use mathlib.Core.Path.{◌≡◌, sym, ap, ◌∙◌}
 use borrow.Author.Rules.{rules}
-use borrow.Author.Tests.{not-true, not-false}
 use Rattle.pool_table.specs.declared.Limits.{Limits}
 use Rattle.pool_table.specs.Pool.{slot_count}
 use Rattle.pool_table.specs.Words.{pool_of, table_of}
@@ -12,15 +11,14 @@ use Rattle.pool_calls.proofs.Forms.{clear_refused, clear_done}
 use Rattle.pool_calls.proofs.clear.Goals as goal
 
 pub returns-then-not-is_well_formed : goal.returns-then-not-is_well_formed
-returns-then-not-is_well_formed c = clear_refused _ (sym c.is_well_formed.ensures ∙ not-true c.is_well_formed.result c.if-not-is_well_formed.true)
+returns-then-not-is_well_formed c = let r = clear_refused _ (sym c.is_well_formed.ensures ∙ c.if-not-is_well_formed.true) in
+    record { value = r.0; table_after = r.1 }
 
 pub returns : goal.returns
 unfolding cleared
-returns c = let made-anew = c.before.before in
-    let read = made-anew.before.before in
-    let tested = read.before.before.before in
-    let t = tested.args.table.now in
-    let e = sym tested.is_well_formed.ensures ∙ not-false tested.is_well_formed.result read.if-not-is_well_formed.false in
-    clear_done t _ e
-    (becomes_table (well_legal t e) made-anew.make_empty.ensures
-    ∙ ap (λ (l : Limits). table_of (made l (slot_count (pool_of t)))) read.of-limits.ensures)
+returns c = let t = c.args.table.now in
+    let e = sym c.is_well_formed.ensures ∙ c.if-not-is_well_formed.false in
+    let r = clear_done t _ e
+    (becomes_table (well_legal t e) c.make_empty.ensures
+    ∙ ap (λ (l : Limits). table_of (made l (slot_count (pool_of t)))) c.of-limits.ensures) in
+    record { value = r.0; table_after = r.1 }

@@ -4,7 +4,6 @@ use mathlib.Core.List.{List}
 use Prim.Native.Nat.{ℕ}
 use lib.ListN.{length}
 use borrow.Author.Rules.{rules}
-use borrow.Author.Tests.{not-true, not-false}
 use Rattle.refusals.specs.Refusals.{Line}
 use Rattle.refusals.proofs.Lines.{Past, none_past, past, stop, all_past, keeps, writes, Gives, Takes}
 use Rattle.pool_table.specs.declared.Limits.{Limits}
@@ -35,19 +34,18 @@ unfolding make_answer after_make
 done t u l e h = (sym (right t l e).answer, writes t _ (right t l e) h)
 
 pub returns-then-not-is_legal : goal.returns-then-not-is_legal
-returns-then-not-is_legal c = refused _ _ (rw (sym c.is_legal.ensures ∙ not-true c.is_legal.result c.if-not-is_legal.true))
+returns-then-not-is_legal c = let r = refused c.args.table.now c.args.limits (rw (sym c.is_legal.ensures ∙ c.if-not-is_legal.true)) in
+    record { value = r.0; table_after = r.1 }
 
 pub returns-then-not-in_range : goal.returns-then-not-in_range
 returns-then-not-in_range c = let t = c.args.table.now in
-    refused _ _ (rw (sym c.in_range.ensures ∙ not-true c.in_range.result c.if-not-in_range.true) (and-false (is_legal (length t))))
+    let r = refused t c.args.limits (rw (sym c.in_range.ensures ∙ c.if-not-in_range.true) (and-false (is_legal (length t)))) in
+    record { value = r.0; table_after = r.1 }
 
 pub returns : goal.returns
-returns c = let ranged = c.before.before.before.before.before in
-    let legal = ranged.before.before in
-    let a = legal.args in
+returns c = let a = c.args in
     let t = a.table.now in
-    let is : is_legal (length t) ≡ true =
-    sym legal.is_legal.ensures ∙ not-false legal.is_legal.result ranged.if-not-is_legal.false in
-    let in-range : limits_in_range a.limits ≡ true =
-    sym ranged.in_range.ensures ∙ not-false ranged.in_range.result c.if-not-in_range.false in
-    done _ _ _ (rw (is, in-range)) (becomes_table is c.make_empty.ensures ∙ ap (λ (n : ℕ). table_of (made a.limits n)) (slot_count_lem t))
+    let is : is_legal (length t) ≡ true = sym c.is_legal.ensures ∙ c.if-not-is_legal.false in
+    let in-range : limits_in_range a.limits ≡ true = sym c.in_range.ensures ∙ c.if-not-in_range.false in
+    let r = done t _ a.limits (rw (is, in-range)) (becomes_table is c.make_empty.ensures ∙ ap (λ (n : ℕ). table_of (made a.limits n)) (slot_count_lem t)) in
+    record { value = r.0; table_after = r.1 }

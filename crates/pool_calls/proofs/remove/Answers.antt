@@ -3,7 +3,6 @@ use mathlib.Core.Bool.{true, not, cond}
 use mathlib.Core.List.{List}
 use Prim.Native.Nat.{ℕ}
 use borrow.Author.Rules.{rules}
-use borrow.Author.Tests.{not-true, not-false}
 use Rattle.txids.specs.declared.Txid.{Txid}
 use Rattle.txids.specs.Txids.{txid_at}
 use Rattle.refusals.proofs.Lines.{none_past, past, stop, all_past, refuses_keeps, succeeds_writes}
@@ -13,11 +12,11 @@ use Rattle.pool_rules.specs.Calls.{placed, no_slot, placed_of, named_refusals, n
 use Rattle.pool_rules.specs.Module8.{is_in, slot_of, removed}
 use Rattle.pool_calls.proofs.Forms.{takable, is_in_lem, is_slot, is_absent, slot_below}
 use Rattle.pool_calls.proofs.remove.Goals as goal
-use Rattle.pool_calls.proofs.remove.Goals.{After-find, Else-not-is_well_formed}
+use Rattle.pool_calls.proofs.remove.Goals.{After-find}
 
 -- the test of the table was passed
-formed : (e : Else-not-is_well_formed) → well_formed e.args.table.now ≡ true
-formed e = sym e.is_well_formed.ensures ∙ not-false e.is_well_formed.result e.if-not-is_well_formed.false
+formed : (f : After-find) → well_formed f.args.table.now ≡ true
+formed f = sym f.is_well_formed.ensures ∙ f.if-not-is_well_formed.false
 
 abbrev table : After-find → List ℕ
 table f = f.args.table.now
@@ -36,35 +35,33 @@ looked f =
 
 pub returns-then-not-is_well_formed : goal.returns-then-not-is_well_formed
 unfolding named_reply after_remove named_refusals
-returns-then-not-is_well_formed c = let tested = c.before.before in
-    refuses_keeps _ _ _ _
-    (stop (none_past refl) (ap not (sym tested.is_well_formed.ensures ∙ not-true tested.is_well_formed.result c.if-not-is_well_formed.true)))
-    c.refused.ensures
+returns-then-not-is_well_formed c = let r = refuses_keeps _ _ _ _
+    (stop (none_past refl) (ap not (sym c.is_well_formed.ensures ∙ c.if-not-is_well_formed.true)))
+    c.refused.ensures in
+    record { value = r.0; table_after = r.1 }
 
 pub returns-in_default : goal.returns-in_default
 unfolding named_reply after_remove named_refusals
-returns-in_default c = let f = c.before.before.before in
-    let told = c.before in
-    let absent = is_absent (pool_of (table f)) (sought f) (sym (ap placed_of told.in_default.is) ∙ looked f) in
-    refuses_keeps _ _ _ _ (stop (past (none_past refl) (ap not (formed f.before.before.before))) (ap not absent)) c.refused-in_default.ensures
+returns-in_default c = let f = (goal.at.returns-in_default c).After-find in
+    let absent = is_absent (pool_of (table f)) (sought f) (sym (ap placed_of c.in_default.is) ∙ looked f) in
+    let r = refuses_keeps _ _ _ _ (stop (past (none_past refl) (ap not (formed f))) (ap not absent)) c.refused-in_default.ensures in
+    record { value = r.0; table_after = r.1 }
 
 pub take_out-requires : goal.take_out-requires
-take_out-requires c = let told = c.before.before in
-    let f = told.before.before in
+take_out-requires c = let f = (goal.at.take_out-requires c).After-find in
     let p = pool_of (table f) in
-    let look = sym (ap placed_of told.in-At.is) ∙ looked f in
+    let look = sym (ap placed_of c.in-At.is) ∙ looked f in
     let slot = is_slot p (sought f) _ look in
-    takable (table f) _ (formed f.before.before.before) (rw slot (slot_below p (sought f) (is_in_lem p (sought f) _ look)))
+    takable (table f) _ (formed f) (rw slot (slot_below p (sought f) (is_in_lem p (sought f) _ look)))
 
 pub returns : goal.returns
 unfolding named_reply after_remove named_refusals
-returns c = let done = c.before.before.before in
-    let told = done.before.before.before in
-    let f = told.before.before in
+returns c = let f = (goal.at.returns c).After-find in
     let p = pool_of (table f) in
-    let look = sym (ap placed_of told.in-At.is) ∙ looked f in
+    let look = sym (ap placed_of c.in-At.is) ∙ looked f in
     let slot = is_slot p (sought f) _ look in
-    succeeds_writes _ _ _ _
-    (all_past (past (past (none_past refl) (ap not (formed f.before.before.before))) (ap not (is_in_lem p (sought f) _ look))) refl)
+    let r = succeeds_writes _ _ _ _
+    (all_past (past (past (none_past refl) (ap not (formed f))) (ap not (is_in_lem p (sought f) _ look))) refl)
     (c.at.ensures ∙ ap placed slot)
-    (done.take_out.ensures ∙ ap (λ (s : ℕ). table_of (removed p s)) slot)
+    (c.take_out.ensures ∙ ap (λ (s : ℕ). table_of (removed p s)) slot) in
+    record { value = r.0; table_after = r.1 }

@@ -1,21 +1,19 @@
 use mathlib.Core.Path.{◌≡◌, refl, sym, ap, ◌∙◌}
 use mathlib.Core.Bool.{not}
 use borrow.Author.Rules.{rules}
-use borrow.Author.Tests.{not-true, not-false}
 use Rattle.refusals.proofs.Lines.{none_past, past, stop, all_past, refuses, succeeds}
 use Rattle.pool_rules.specs.Calls.{totals_reply}
 use Rattle.pool_calls.proofs.totals.Goals as goal
 
 pub returns-then-not-is_well_formed : goal.returns-then-not-is_well_formed
 unfolding totals_reply
-returns-then-not-is_well_formed c = let tested = c.before.before in
-    refuses _ _ (stop (none_past refl) (ap not (sym tested.is_well_formed.ensures ∙ not-true tested.is_well_formed.result c.if-not-is_well_formed.true)))
+returns-then-not-is_well_formed c =
+    refuses _ _ (stop (none_past refl) (ap not (sym c.is_well_formed.ensures ∙ c.if-not-is_well_formed.true)))
     c.refused.ensures
 
 pub returns : goal.returns
 unfolding totals_reply
-returns c = let counted = c.before in
-    let tested = counted.before.before in
+returns c =
     succeeds _ _
-    (all_past (past (none_past refl) (ap not (sym tested.is_well_formed.ensures ∙ not-false tested.is_well_formed.result counted.if-not-is_well_formed.false))) refl)
-    (rw (counted.count_entries.ensures, c.total.ensures))
+    (all_past (past (none_past refl) (ap not (sym c.is_well_formed.ensures ∙ c.if-not-is_well_formed.false))) refl)
+    (rw (c.count_entries.ensures, c.total.ensures))

@@ -11,8 +11,7 @@ pub loop-s-init : goal.loop-s-init
 loop-s-init c = (search rules, walk_start _ _)
 
 pub loop-s-preserved : goal.loop-s-preserved
-loop-s-preserved c = let head = c.before.before.before.before.before in
-    (search rules, walk_turn _ head.loop-s.s _ head.loop-s.table _ (omega arith) head.loop-s.invariant.1 c.unlink.ensures)
+loop-s-preserved c = (search rules, walk_turn _ c.loop-s.s _ c.loop-s.table _ (omega arith) c.loop-s.invariant.1 c.unlink.ensures)
 
 pub shape_of-table : goal.shape_of-table
 shape_of-table c = c.loop-s.invariant.1.long
