@@ -4,11 +4,12 @@ use mathlib.Core.List.{List}
 use Prim.Native.Nat.{ℕ, ◌≤◌, ◌<◌}
 use native.Mathlib.Omega.{arith}
 use borrow.Author.Rules.{rules}
-use borrow.Author.Tests.{eq-eqb, ne_eqb, not-true, not-false}
+use borrow.Author.Tests.{eq-eqb, ne_eqb}
 use Rattle.refusals.specs.Refusals.{Line}
 use Rattle.refusals.proofs.Lines.{Past, none_past, past, stop, all_past, refuses_keeps, succeeds_writes}
 use Rattle.txset.specs.Sets.{has_in}
 use Rattle.txids.specs.declared.Txid.{Txid}
+use Rattle.txids.specs.Txids.{txid_at}
 use Rattle.slotsets.specs.SlotSets.{set_of}
 use Rattle.pool_table.specs.declared.Entry.{Entry}
 use Rattle.pool_table.specs.Pool.{slot_count}
@@ -24,206 +25,155 @@ use Rattle.pool_clusters.specs.Clusters.{clusters_of}
 use Rattle.pool_add.proofs.Limits.{entry_small, total_small, union_small, count_over, count_within, size_over, size_within}
 use Rattle.pool_add.proofs.Written.{written}
 use Rattle.pool_add.proofs.add.Goals as goal
-use Rattle.pool_add.proofs.add.Goals.{After-clusters_of-union, After-find, After-in_range, After-is_well_formed, After-linked-2-1, After-listed_slots-linked, After-of-id, After-slots, Else-limits-union, Else-limits-virtual_size, Else-not-in_range, Else-not-is_well_formed, Else-parents-ne0, Else-slots-slot, In_default}
+use Rattle.pool_add.proofs.add.Goals.{After-clusters_of-union, Else-not-in_range, Else-parents-ne0, Else-slots-slot, In_default}
 
 -- ---- what is given
 
-abbrev Tested : Type 0
-Tested = After-is_well_formed
-
-abbrev table : Tested → List ℕ
-table k = k.args.table.now
-
-abbrev listed : Tested → List ℕ
-listed k = k.args.parents.now
-
-abbrev given : Tested → Entry
-given k = let a = k.args in entry_of a.txid a.fee a.weight a.cost
-
-abbrev lines : Tested → List Line
-lines k = add_refusals (table k) (given k) (listed k)
+-- the first n lines do not refuse it
+abbrev PastOf : (table txid : List ℕ) (fee weight cost : ℕ) (parents : List ℕ) (n : ℕ) → Type 0
+PastOf table txid fee weight cost parents n = Past (add_refusals table (entry_of txid fee weight cost) parents) n
 
 -- ---- 12 and 1
 
-past_0 : (k : Tested) → Past (lines k) 0
-unfolding add_refusals
-past_0 k = none_past refl
-
-well : (e : Else-not-is_well_formed) → well_formed (table e.before) ≡ true
-well e = sym e.is_well_formed.ensures ∙ e.if-not-is_well_formed.false
-
-past_1 : (e : Else-not-is_well_formed) → Past (lines e.before) 1
-unfolding add_refusals
-past_1 e = past (past_0 e.before) (ap not (well e))
-
 pub returns-then-not-is_well_formed : goal.returns-then-not-is_well_formed
 unfolding add_reply after_add add_refusals
-returns-then-not-is_well_formed c = let k = c.before.before in
-    refuses_keeps _ _ _ _ (stop (past_0 k) (ap not (sym k.is_well_formed.ensures ∙ c.if-not-is_well_formed.true))) c.refused.ensures
-
-past_2 : (e : Else-parents-ne0) → Past (lines e.before.before) 2
-unfolding add_refusals
-past_2 e = past (past_1 e.before) (ap not (eq-eqb _ 0 e.if-parents-ne0.false))
+returns-then-not-is_well_formed c = let r = refuses_keeps _ _ _ _ (stop (none_past refl) (ap not (sym c.is_well_formed.ensures ∙ c.if-not-is_well_formed.true))) c.refused.ensures in
+    record { value = r.0; table_after = r.1 }
 
 pub returns-then-parents-ne0 : goal.returns-then-parents-ne0
 unfolding add_reply after_add add_refusals
-returns-then-parents-ne0 c = refuses_keeps _ _ _ _ (stop (past_1 c.before.before) (ap not (ne_eqb _ 0 c.if-parents-ne0.true))) c.refused-then-parents-ne0.ensures
+returns-then-parents-ne0 c = let r = refuses_keeps _ _ _ _
+    (stop (past (none_past refl) (ap not (sym c.is_well_formed.ensures ∙ c.if-not-is_well_formed.false))) (ap not (ne_eqb _ 0 c.if-parents-ne0.true)))
+    c.refused-then-parents-ne0.ensures in
+    record { value = r.0; table_after = r.1 }
+
+well : (e : Else-parents-ne0) → well_formed e.args.table.now ≡ true
+well e = sym e.is_well_formed.ensures ∙ e.if-not-is_well_formed.false
+
+past_2 : (e : Else-parents-ne0) → let a = e.args in PastOf a.table.now a.txid a.fee a.weight a.cost a.parents.now 2
+unfolding add_refusals
+past_2 e = past (past (none_past refl) (ap not (well e))) (ap not (eq-eqb _ 0 e.if-parents-ne0.false))
 
 -- ---- 3 and 6
 
 -- the entry is the one given
-abbrev entry : After-of-id → Entry
-entry d = let a = d.args in
-    record { txid = d.of-id.result; fee = a.fee; weight = record { 0 = a.weight }; cost = a.cost }
-
-entry_is : (d : After-of-id) → entry d ≡ given d.before.before.before
-entry_is d = let a = d.args in
-    ap {B = Entry} (λ (x : Txid). record { txid = x; fee = a.fee; weight = record { 0 = a.weight }; cost = a.cost }) d.of-id.ensures
-
-ranged : (r : After-in_range) → r.in_range.result ≡ entry_in_range (given r.before.before.before.before)
-ranged r = r.in_range.ensures ∙ ap entry_in_range (entry_is r.before)
-
-past_3 : (e : Else-not-in_range) → Past (lines e.before.before.before.before.before) 3
-unfolding add_refusals
-past_3 e = past (past_2 e.before.before.before) (ap not (sym (ranged e.before) ∙ e.if-not-in_range.false))
+entry_is : (bytes : List ℕ) (fee weight cost : ℕ) (x : Txid) → x ≡ txid_at bytes 0
+    → record { txid = x; fee = fee; weight = record { 0 = weight }; cost = cost } ≡ entry_of bytes fee weight cost
+entry_is bytes fee weight cost x e = ap {B = Entry} (λ (x : Txid). record { txid = x; fee = fee; weight = record { 0 = weight }; cost = cost }) e
 
 pub returns-then-not-in_range : goal.returns-then-not-in_range
 unfolding add_reply after_add add_refusals
-returns-then-not-in_range c = let r = c.before.before in
-    refuses_keeps _ _ _ _ (stop (past_2 r.before.before) (ap not (sym (ranged r) ∙ c.if-not-in_range.true))) c.refused-then-not-in_range.ensures
+returns-then-not-in_range c = let a = c.args in
+    let r = refuses_keeps _ _ _ _
+    (stop (past_2 (goal.at.returns-then-not-in_range c).Else-parents-ne0)
+    (ap not (sym (c.in_range.ensures ∙ ap entry_in_range (entry_is a.txid a.fee a.weight a.cost _ c.of-id.ensures)) ∙ c.if-not-in_range.true)))
+    c.refused-then-not-in_range.ensures in
+    record { value = r.0; table_after = r.1 }
 
--- where the tests before it stand
-abbrev made : After-find → After-of-id
-made f = f.before.before.before.before
+ranged : (e : Else-not-in_range) → let a = e.args in entry_in_range (entry_of a.txid a.fee a.weight a.cost) ≡ true
+ranged e =
+    let a = e.args in
+    sym (e.in_range.ensures ∙ ap entry_in_range (entry_is a.txid a.fee a.weight a.cost _ e.of-id.ensures)) ∙ e.if-not-in_range.false
 
-abbrev known : After-find → Tested
-known f = (made f).before.before.before
-
--- whether the txid given is in the pool is what was looked for
-looked : (f : After-find)
-    → is_in (pool_of (table (known f))) (given (known f)).txid ≡ is_in (pool_of (table (known f))) (made f).of-id.result
-looked f = ap (is_in (pool_of (table (known f)))) (sym (made f).of-id.ensures)
-
-past_4 : (n : In_default) → Past (lines (known n.before.before)) 4
+past_3 : (e : Else-not-in_range) → (let a = e.args in PastOf a.table.now a.txid a.fee a.weight a.cost a.parents.now 2) → (let a = e.args in PastOf a.table.now a.txid a.fee a.weight a.cost a.parents.now 3)
 unfolding add_refusals
-past_4 n =
-    let f = n.before.before in
-    past (past_3 f.before.before) (looked f ∙ is_nowhere _ _ (sym (ap placed_of n.in_default.is) ∙ f.find.ensures))
+past_3 e past_2 = past past_2 (ap not (ranged e))
 
 pub returns-in-At : goal.returns-in-At
 unfolding add_reply after_add add_refusals
-returns-in-At c = let f = c.before.before.before in
-    refuses_keeps _ _ _ _
-    (stop (past_3 f.before.before) (looked f ∙ (is_at _ _ _ (sym (ap placed_of c.in-At.is) ∙ f.find.ensures)).0))
-    c.refused-in-At.ensures
+returns-in-At c = let at = goal.at.returns-in-At c in
+    let p = pool_of c.args.table.now in
+    let r = refuses_keeps _ _ _ _
+    (stop (past_3 at.Else-not-in_range (past_2 at.Else-parents-ne0))
+    (ap (is_in p) (sym c.of-id.ensures) ∙ (is_at _ _ _ (sym (ap placed_of c.in-At.is) ∙ c.find.ensures)).0))
+    c.refused-in-At.ensures in
+    record { value = r.0; table_after = r.1 }
+
+past_4 : (n : In_default) → (let a = n.args in PastOf a.table.now a.txid a.fee a.weight a.cost a.parents.now 3) → (let a = n.args in PastOf a.table.now a.txid a.fee a.weight a.cost a.parents.now 4)
+unfolding add_refusals
+past_4 n past_3 = past past_3 (ap (is_in (pool_of n.args.table.now)) (sym n.of-id.ensures) ∙ is_nowhere _ _ (sym (ap placed_of n.in_default.is) ∙ n.find.ensures))
 
 -- ---- 7
 
-abbrev absent : After-slots → In_default
-absent s = s.before.before.before.before
-
-room : (e : Else-slots-slot) → let p = pool_of (table (known (absent e.before).before.before)) in lowest_free p < slot_count p
-room e = omega (arith, e.slots.ensures, e.lowest_free-slot.ensures, e.if-slots-slot.false)
-
-past_5 : (e : Else-slots-slot) → Past (lines (known (absent e.before).before.before)) 5
-unfolding add_refusals
-past_5 e = past (past_4 (absent e.before)) (room_below _ (room e))
-
 pub returns-then-slots-slot : goal.returns-then-slots-slot
 unfolding add_reply after_add add_refusals
-returns-then-slots-slot c = let s = c.before.before in
-    refuses_keeps _ _ _ _
-    (stop (past_4 (absent s)) (full_past _ (omega (arith, s.slots.ensures, s.lowest_free-slot.ensures, c.if-slots-slot.true))))
-    c.refused-then-slots-slot.ensures
+returns-then-slots-slot c = let at = goal.at.returns-then-slots-slot c in
+    let r = refuses_keeps _ _ _ _
+    (stop (past_4 at.In_default (past_3 at.Else-not-in_range (past_2 at.Else-parents-ne0))) (full_past _ (omega (arith, c.slots.ensures, c.lowest_free-slot.ensures, c.if-slots-slot.true))))
+    c.refused-then-slots-slot.ensures in
+    record { value = r.0; table_after = r.1 }
+
+room : (e : Else-slots-slot) → let p = pool_of e.args.table.now in lowest_free p < slot_count p
+room e = omega (arith, e.slots.ensures, e.lowest_free-slot.ensures, e.if-slots-slot.false)
+
+past_5 : (e : Else-slots-slot) → (let a = e.args in PastOf a.table.now a.txid a.fee a.weight a.cost a.parents.now 4) → (let a = e.args in PastOf a.table.now a.txid a.fee a.weight a.cost a.parents.now 5)
+unfolding add_refusals
+past_5 e past_4 = past past_4 (room_below _ (room e))
 
 -- ---- 8 and 9
 
-abbrev free : After-listed_slots-linked → Else-slots-slot
-free l = l.before.before
+-- the entry's weight is in its range
+light : (e : Else-not-in_range) → e.args.weight ≤ 4000000
+light e = let a = e.args in entry_small (entry_of a.txid a.fee a.weight a.cost) (ranged e)
 
-abbrev first : After-listed_slots-linked → After-find
-first l = (absent (free l).before).before.before
+module _ (u : After-clusters_of-union) where
+  abbrev parents : ℕ → Bool
+  parents = let a = u.args in is_listed (pool_of a.table.now) (txid_at a.txid 0) a.parents.now
 
-abbrev parents : After-listed_slots-linked → ℕ → Bool
-parents l = let k = known (first l) in is_listed (pool_of (table k)) (given k).txid (listed k)
+  linked_are : u.listed_slots-linked.result ≡ set_of parents
+  linked_are =
+      let a = u.args in
+      u.listed_slots-linked.ensures ∙ ap (λ (x : Txid). set_of (is_listed (pool_of a.table.now) x a.parents.now)) u.of-id.ensures
 
-linked_are : (l : After-listed_slots-linked) → l.listed_slots-linked.result ≡ set_of (parents l)
-linked_are l =
-    let k = known (first l) in
-    l.listed_slots-linked.ensures ∙ ap (λ (x : Txid). set_of (is_listed (pool_of (table k)) x (listed k))) (made (first l)).of-id.ensures
+  united : u.clusters_of-union.result ≡ clusters_of u.args.table.now (has_in (set_of parents))
+  united = u.clusters_of-union.ensures ∙ ap (λ (ws : List ℕ). clusters_of u.args.table.now (has_in ws)) linked_are
 
-abbrev from : After-clusters_of-union → After-listed_slots-linked
-from u = u.before.before.before
-
-united : (u : After-clusters_of-union) → u.clusters_of-union.result ≡ clusters_of (table (known (first (from u)))) (has_in (set_of (parents (from u))))
-united u =
-    u.clusters_of-union.ensures
-    ∙ ap (λ (ws : List ℕ). clusters_of (table (known (first (from u)))) (has_in ws)) (linked_are (from u))
-
-stands : (u : After-clusters_of-union) → well_formed (table (known (first (from u)))) ≡ true
-stands u = well (made (first (from u))).before.before
-
-past_6 : (e : Else-limits-union) → Past (lines (known (first (from e.before.before.before.before)))) 6
-unfolding add_refusals
-past_6 e =
-    let o = e.before.before in
-    let u = o.before.before in
-    past (past_5 (free (from u))) (count_within _ (stands u) (parents (from u)) _ (united u) _ o.of-limits.ensures e.if-limits-union.false)
+  stands : well_formed u.args.table.now ≡ true
+  stands = sym u.is_well_formed.ensures ∙ u.if-not-is_well_formed.false
 
 pub returns-then-limits-union : goal.returns-then-limits-union
 unfolding add_reply after_add add_refusals
-returns-then-limits-union c = let o = c.before.before.before in
-    let u = o.before.before in
-    refuses_keeps _ _ _ _
-    (stop (past_5 (free (from u))) (count_over _ (stands u) (parents (from u)) _ (united u) _ o.of-limits.ensures c.if-limits-union.true))
-    c.refused-then-limits-union.ensures
-
--- the entry's weight is in its range
-light : (f : After-find) → (given (known f)).weight.0 ≤ 4000000
-light f =
-    let e = f.before.before in
-    entry_small (given (known f)) (sym (ranged e.before) ∙ e.if-not-in_range.false)
+returns-then-limits-union c = let at = goal.at.returns-then-limits-union c in
+    let u = at.After-clusters_of-union in
+    let r = refuses_keeps _ _ _ _
+    (stop (past_5 at.Else-slots-slot (past_4 at.In_default (past_3 at.Else-not-in_range (past_2 at.Else-parents-ne0)))) (count_over _ (stands u) (parents u) _ (united u) _ c.of-limits.ensures c.if-limits-union.true))
+    c.refused-then-limits-union.ensures in
+    record { value = r.0; table_after = r.1 }
 
 pub overflow_add-together : goal.overflow_add-together
-overflow_add-together c = let u = c.before.before.before.before.before in
-    record { fits = omega (arith, union_small _ (stands u) (parents (from u)) _ (united u), light (first (from u))) }
-
-past_7 : (e : Else-limits-virtual_size) → Past (lines (known (first (from e.before.before.before.before.before.before.before.before)))) 7
-unfolding add_refusals
-past_7 e =
-    let v = e.before.before in
-    let o = v.before.before.before.before in
-    let u = o.before.before in
-    past (past_6 v.before.before)
-    (size_within _ (stands u) (parents (from u)) _ (united u) _ o.of-limits.ensures _ _ v.virtual_size.ensures e.if-limits-virtual_size.false)
+overflow_add-together c = let at = goal.at.overflow_add-together c in
+    let u = at.After-clusters_of-union in
+    record { fits = omega (arith, union_small _ (stands u) (parents u) _ (united u), light at.Else-not-in_range) }
 
 pub returns-then-limits-virtual_size : goal.returns-then-limits-virtual_size
 unfolding add_reply after_add add_refusals
-returns-then-limits-virtual_size c = let v = c.before.before.before in
-    let o = v.before.before.before.before in
-    let u = o.before.before in
-    refuses_keeps _ _ _ _
-    (stop (past_6 v.before.before)
-    (size_over _ (stands u) (parents (from u)) _ (united u) _ o.of-limits.ensures _ _ v.virtual_size.ensures c.if-limits-virtual_size.true))
-    c.refused-then-limits-virtual_size.ensures
+returns-then-limits-virtual_size c = let at = goal.at.returns-then-limits-virtual_size c in
+    let u = at.After-clusters_of-union in
+    let r = refuses_keeps _ _ _ _
+    (stop (past (past_5 at.Else-slots-slot (past_4 at.In_default (past_3 at.Else-not-in_range (past_2 at.Else-parents-ne0)))) (count_within _ (stands u) (parents u) _ (united u) _ c.of-limits.ensures c.if-limits-union.false))
+    (size_over _ (stands u) (parents u) _ (united u) _ c.of-limits.ensures _ _ c.virtual_size.ensures c.if-limits-virtual_size.true))
+    c.refused-then-limits-virtual_size.ensures in
+    record { value = r.0; table_after = r.1 }
 
 -- ---- the entry is put in
 
-abbrev within : After-linked-2-1 → After-clusters_of-union
-within c = c.before.before.before.before.before.before.before.before.before.before
-
 pub put_in-requires : goal.put_in-requires
-put_in-requires c = let u = within c in
-    let t = table (known (first (from u))) in
-    omega (arith, total_small (pool_of t) (well_sound t (stands u)) (few_slots t (well_legal t (stands u))), light (first (from u)))
+put_in-requires c = let at = goal.at.put_in-requires c in
+    let u = at.After-clusters_of-union in
+    let t = c.args.table.now in
+    omega (arith, total_small (pool_of t) (well_sound t (stands u)) (few_slots t (well_legal t (stands u))), light at.Else-not-in_range)
 
 pub returns : goal.returns
 unfolding add_reply after_add add_refusals
-returns c = let put = c.before.before.before in
-    let u = within put.before in
-    let f = first (from u) in
-    let s = (free (from u)).before in
-    let lowest = s.before.before.lowest-free.ensures in
-    succeeds_writes _ _ _ _ (all_past (past_7 put.before.before.before) refl)
-    (c.at.ensures ∙ ap placed lowest)
-    (written _ (stands u) _ _ (room (free (from u))) _ _ _ _ lowest (entry_is (made f)) (linked_are (from u)) put.put_in.ensures)
+returns c = let a = c.args in
+    let at = goal.at.returns c in
+    let u = at.After-clusters_of-union in
+    let r = succeeds_writes _ _ _ _
+    (all_past
+    (past
+    (past (past_5 at.Else-slots-slot (past_4 at.In_default (past_3 at.Else-not-in_range (past_2 at.Else-parents-ne0)))) (count_within _ (stands u) (parents u) _ (united u) _ c.of-limits.ensures c.if-limits-union.false))
+    (size_within _ (stands u) (parents u) _ (united u) _ c.of-limits.ensures _ _ c.virtual_size.ensures c.if-limits-virtual_size.false))
+    refl)
+    (c.at.ensures ∙ ap placed c.lowest_free-slot.ensures)
+    (written _ (stands u) _ _ (room at.Else-slots-slot) _ _ _ _ c.lowest_free-slot.ensures (entry_is a.txid a.fee a.weight a.cost _ c.of-id.ensures) (linked_are u) c.put_in.ensures) in
+    record { value = r.0; table_after = r.1 }

@@ -10,20 +10,19 @@ use Rattle.pool_table.specs.Changes.{Becomes}
 use Rattle.pool_add.specs.Steps.{linked_to}
 use Rattle.pool_add.proofs.Links.{linked_start, linked_skip, linked_more, linked_done}
 use Rattle.pool_add.proofs.link_parents.Goals as goal
+use Rattle.pool_add.proofs.link_parents.Goals.{then-contains, else-contains}
 
 pub loop-s-init : goal.loop-s-init
 loop-s-init c = (search rules, linked_start _ _ _)
 
 pub loop-s-preserved : goal.loop-s-preserved
-loop-s-preserved c = let test = c.before in
-    let head = test.before.before in
-    let inv = head.loop-s.invariant.1 in
-    let s = head.loop-s.s in (
+loop-s-preserved c = let inv = c.loop-s.invariant.1 in
+    let s = c.loop-s.s in (
       search rules,
-      ⊎_elim
-          (λ w. rw w.9 (linked_more _ _ s inv (sym test.contains.ensures ∙ w.0.taken) w.2.ensures w.6.ensures))
-          (λ w. rw w.1 (linked_skip _ _ s inv (sym test.contains.ensures ∙ w.0.left)))
-          c.if-contains.branch,
+      elim c.if-contains.branch [
+        then-contains w ↦ rw w.table-is (linked_more _ _ s inv (sym c.contains.ensures ∙ w.if-contains.true) w.link.ensures w.link-then-contains.ensures)
+      | else-contains w ↦ rw w.table-is (linked_skip _ _ s inv (sym c.contains.ensures ∙ w.if-contains.false))
+      ],
     )
 
 pub shape_of-table : goal.shape_of-table
