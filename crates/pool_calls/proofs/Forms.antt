@@ -1,5 +1,5 @@
 -- What a well_formed_lem table gives the calls, and what the look-up tells. Assumes nothing.
-use mathlib.Core.Path.{◌≡◌, refl, sym, ap, ◌∙◌}
+use mathlib.Core.Path.{◌≡◌, refl, sym, ap}
 use mathlib.Core.Bool.{Bool, true, false, cond, not}
 use mathlib.Core.Logic.{⊎_elim}
 use mathlib.Core.List.{List, [], ◌∷◌}
@@ -7,7 +7,6 @@ use Prim.Native.Nat.{ℕ, zero, suc, ◌+◌, ◌<◌, ◌≤◌}
 use native.Mathlib.Nat.{eq-or-lt_of_le}
 use native.Mathlib.Omega.{arith}
 use borrow.Author.Tests.{eqb-true}
-use Rattle.lists.specs.Below.{any_from, first_from}
 use Rattle.lists.proofs.Below.{first_below}
 use Rattle.lists.proofs.Bools.{clash}
 use Rattle.txids.specs.declared.Txid.{Txid}

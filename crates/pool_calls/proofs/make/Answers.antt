@@ -3,11 +3,9 @@ use mathlib.Core.Bool.{true, false, not, ◌&&◌, and-false}
 use mathlib.Core.List.{List}
 use Prim.Native.Nat.{ℕ}
 use lib.ListN.{length}
-use borrow.Author.Rules.{rules}
-use Rattle.refusals.specs.Refusals.{Line}
-use Rattle.refusals.proofs.Lines.{Past, none_past, past, stop, all_past, keeps, writes, Gives, Takes}
+use Rattle.refusals.proofs.Lines.{none_past, past, stop, all_past, keeps, writes, Gives, Takes}
 use Rattle.pool_table.specs.declared.Limits.{Limits}
-use Rattle.pool_table.specs.Words.{is_legal, slots_in, pool_of, table_of}
+use Rattle.pool_table.specs.Words.{is_legal, slots_in, table_of}
 use Rattle.pool_table.specs.Ranges.{limits_in_range}
 use Rattle.pool_table.specs.Changes.{made}
 use Rattle.pool_table.proofs.Rows.{slot_count_lem}

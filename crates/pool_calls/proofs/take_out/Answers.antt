@@ -1,7 +1,6 @@
 use mathlib.Core.Path.{◌≡◌, ap, ◌∙◌}
 use Prim.Native.Nat.{ℕ, ◌-◌}
 use native.Mathlib.Omega.{arith}
-use borrow.Author.Rules.{rules}
 use Rattle.weights.specs.declared.RawWeight.{RawWeight}
 use Rattle.pool_table.specs.Pool.{Pool, weight_at, free}
 use Rattle.pool_table.specs.Words.{pool_of}

@@ -1,6 +1,5 @@
-use mathlib.Core.Path.{◌≡◌, refl, sym, ap, ◌∙◌}
+use mathlib.Core.Path.{refl, sym, ap, ◌∙◌}
 use mathlib.Core.Bool.{not}
-use borrow.Author.Rules.{rules}
 use Rattle.refusals.proofs.Lines.{none_past, past, stop, all_past, refuses, succeeds}
 use Rattle.pool_rules.specs.Calls.{totals_reply}
 use Rattle.pool_calls.proofs.totals.Goals as goal

@@ -1,10 +1,6 @@
-use Prim.Native.Nat.{ℕ, ◌-◌, ◌≤◌}
 use native.Mathlib.Omega.{arith}
 use borrow.Author.Rules.{rules}
-use Rattle.pool_table.specs.Pool.{slot_count}
-use Rattle.pool_table.specs.Words.{pool_of}
-use Rattle.pool_table.specs.Changes.{Becomes}
-use Rattle.pool_calls.proofs.Leaving.{up_to, walk_start, walk_turn, walk_end}
+use Rattle.pool_calls.proofs.Leaving.{walk_start, walk_turn, walk_end}
 use Rattle.pool_calls.proofs.unlink_all.Goals as goal
 
 pub loop-s-init : goal.loop-s-init

@@ -1,10 +1,8 @@
-use Prim.Native.Nat.{ℕ, ◌-◌, ◌≤◌}
-use native.Mathlib.Omega.{arith}
-use borrow.Author.Rules.{rules}
+use Prim.Native.Nat.{◌-◌, ◌≤◌}
 use Rattle.pool_table.specs.Pool.{slot_count}
 use Rattle.pool_table.specs.Words.{pool_of}
 use Rattle.pool_table.specs.Changes.{Becomes}
-use Rattle.pool_calls.proofs.Leaving.{up_to, walk_start, walk_turn, walk_end}
+use Rattle.pool_calls.proofs.Leaving.{up_to}
 use Rattle.pool_calls.proofs.unlink_all.Given as goal
 
 abbrev pub invariant-loop-s : goal.invariant-loop-s
