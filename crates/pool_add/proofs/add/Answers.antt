@@ -3,9 +3,7 @@ use mathlib.Core.Bool.{Bool, true, not}
 use mathlib.Core.List.{List}
 use Prim.Native.Nat.{ℕ, ◌≤◌, ◌<◌}
 use native.Mathlib.Omega.{arith}
-use borrow.Author.Rules.{rules}
 use borrow.Author.Tests.{eq-eqb, ne_eqb}
-use Rattle.refusals.specs.Refusals.{Line}
 use Rattle.refusals.proofs.Lines.{Past, none_past, past, stop, all_past, refuses_keeps, succeeds_writes}
 use Rattle.txset.specs.Sets.{has_in}
 use Rattle.txids.specs.declared.Txid.{Txid}

@@ -1,13 +1,6 @@
 use mathlib.Core.Path.{sym, ◌∙◌}
-use mathlib.Core.Logic.{⊎_elim}
-use Prim.Native.Nat.{◌-◌, ◌≤◌}
 use native.Mathlib.Omega.{arith}
 use borrow.Author.Rules.{rules}
-use Rattle.txset.specs.Sets.{has_in}
-use Rattle.pool_table.specs.Pool.{slot_count}
-use Rattle.pool_table.specs.Words.{pool_of}
-use Rattle.pool_table.specs.Changes.{Becomes}
-use Rattle.pool_add.specs.Steps.{linked_to}
 use Rattle.pool_add.proofs.Links.{linked_start, linked_skip, linked_more, linked_done}
 use Rattle.pool_add.proofs.link_parents.Goals as goal
 use Rattle.pool_add.proofs.link_parents.Goals.{then-contains, else-contains}
@@ -20,8 +13,8 @@ loop-s-preserved c = let inv = c.loop-s.invariant.1 in
     let s = c.loop-s.s in (
       search rules,
       elim c.if-contains.branch [
-        then-contains w ↦ rw w.table-is (linked_more _ _ s inv (sym c.contains.ensures ∙ w.if-contains.true) w.link.ensures w.link-then-contains.ensures)
-      | else-contains w ↦ rw w.table-is (linked_skip _ _ s inv (sym c.contains.ensures ∙ w.if-contains.false))
+        | then-contains w ↦ rw w.table-is (linked_more _ _ s inv (sym c.contains.ensures ∙ w.if-contains.true) w.link.ensures w.link-then-contains.ensures)
+        | else-contains w ↦ rw w.table-is (linked_skip _ _ s inv (sym c.contains.ensures ∙ w.if-contains.false))
       ],
     )
 

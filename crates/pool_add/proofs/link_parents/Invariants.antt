@@ -1,14 +1,9 @@
-use mathlib.Core.Path.{sym, ◌∙◌}
-use mathlib.Core.Logic.{⊎_elim}
 use Prim.Native.Nat.{◌-◌, ◌≤◌}
-use native.Mathlib.Omega.{arith}
-use borrow.Author.Rules.{rules}
 use Rattle.txset.specs.Sets.{has_in}
 use Rattle.pool_table.specs.Pool.{slot_count}
 use Rattle.pool_table.specs.Words.{pool_of}
 use Rattle.pool_table.specs.Changes.{Becomes}
 use Rattle.pool_add.specs.Steps.{linked_to}
-use Rattle.pool_add.proofs.Links.{linked_start, linked_skip, linked_more, linked_done}
 use Rattle.pool_add.proofs.link_parents.Given as goal
 
 abbrev pub invariant-loop-s : goal.invariant-loop-s

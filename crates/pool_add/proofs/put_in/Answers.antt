@@ -1,6 +1,5 @@
 use mathlib.Core.Path.{ap}
 use Prim.Native.Nat.{ℕ, ◌+◌}
-use borrow.Author.Rules.{rules}
 use Rattle.pool_add.proofs.Links.{put_becomes}
 use Rattle.pool_add.proofs.put_in.Goals as goal
 
