@@ -311,7 +311,8 @@ module _ {fs : List ℤ} {ss ancestors order sets outsides tops : List ℕ} {sum
           place = omega (arith, g.place);
           piled = (
             rw (g.place, here, here', top) g.holds,
-            piled_same _ _ g.below (λ j x m y.
+            piled_same (HeldAt (length fs) (mem_at ancestors) sets outsides tops)
+                (HeldAt (length fs) (mem_at ancestors) (put_at sets k q.set) (put_at outsides k q.outside) (set tops k q.top)) g.below (λ j x m y.
                 let n : k ≡ j → ⊥ = λ z. omega (arith, g.place) in
                 rw (put_other sets k j q.set n, put_other outsides k j q.outside n, get_or-set_other tops k j q.top 0 (λ z. n (sym z))) y)
                 g.piled,

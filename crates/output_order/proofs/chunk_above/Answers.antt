@@ -6,9 +6,8 @@ use Rattle.output_order.proofs.chunk_above.Goals as goal
 
 pub returns : goal.returns
 unfolding sum_above
-returns c = let tops = c.before.before in
-    let rank = tops.before.before.before in
+returns c =
     c.is_greater.ensures
     ∙ ap is_greater
     (c.then_by.ensures
-    ∙ ap₂ then_by (rank.rank-by_rank.ensures ∙ ap₂ rank_order rank.at.ensures rank.at-2.ensures) tops.compare_sizes-by_top.ensures)
+    ∙ ap₂ then_by (c.rank-by_rank.ensures ∙ ap₂ rank_order c.at.ensures c.at-2.ensures) c.compare_sizes-by_top.ensures)
