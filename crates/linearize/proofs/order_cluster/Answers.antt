@@ -1,5 +1,4 @@
 use native.Mathlib.Omega.{arith}
-use borrow.Author.Rules.{rules}
 use Rattle.post_linearize.proofs.Checks.{new_room}
 use Rattle.linearize.proofs.order_cluster.Goals as goal
 

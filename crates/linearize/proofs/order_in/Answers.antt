@@ -1,6 +1,5 @@
 use mathlib.Core.Path.{refl, sym, ap, ◌∙◌}
 use lib.Seq.{length-take-le}
-use borrow.Author.Rules.{rules}
 use Rattle.depgraph.specs.Closed.{Closed}
 use Rattle.depgraph.proofs.Theorems.{graph_whole}
 use Rattle.refusals.specs.Refusals.{success}

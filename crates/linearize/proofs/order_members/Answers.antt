@@ -1,4 +1,3 @@
-use borrow.Author.Rules.{rules}
 use Rattle.linearize.proofs.Order.{steps}
 use Rattle.linearize.proofs.order_members.Goals as goal
 

@@ -1,4 +1,3 @@
-use borrow.Author.Rules.{rules}
 use mathlib.Core.Path.{ap, ap₂, ◌∙◌}
 use Rattle.feefrac.specs.Rate.{rank_order, then_by, is_greater}
 use Rattle.output_order.specs.Rounds.{sum_above}

@@ -1,10 +1,8 @@
-use Prim.Native.Nat.{◌-◌, ◌<◌}
+use Prim.Native.Nat.{◌<◌}
 use native.Mathlib.Omega.{arith}
 use mathlib.Core.Path.{refl, sym, ◌∙◌}
-use lib.ListN.{length}
-use borrow.Author.Rules.{rules}
 use Rattle.txset.specs.Sets.{positions}
-use Rattle.output_order.proofs.Cutting.{Cutting, cut_start, cut_place, cut_turn, cut_done}
+use Rattle.output_order.proofs.Cutting.{cut_start, cut_place, cut_turn, cut_done}
 use Rattle.output_order.proofs.cut.Goals as goal
 use Rattle.output_order.proofs.cut.Goals.{After-swallow-whole}
 

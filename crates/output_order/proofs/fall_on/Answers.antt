@@ -1,5 +1,4 @@
 use mathlib.Core.Path.{sym, ap, ◌∙◌}
-use borrow.Author.Rules.{rules}
 use Rattle.feefrac.specs.declared.FeeFrac.{FeeFrac}
 use Rattle.output_order.proofs.Falling.{falls_not, falls_end, falls_below, falls_level}
 use Rattle.output_order.proofs.fall_on.Goals as goal

@@ -1,14 +1,12 @@
-use borrow.Author.Rules.{rules}
-use borrow.Author.Tests.{not-true, not-false}
 use mathlib.Core.Path.{◌≡◌, refl, sym, ap, ap₂, ◌∙◌}
-use mathlib.Core.Bool.{Bool, true, not, ◌&&◌}
+use mathlib.Core.Bool.{Bool, not, ◌&&◌}
 use lib.Dec.{eqb}
 use Rattle.feefrac.specs.Rate.{rank_order, is_greater, rate_at}
 use Rattle.txset.specs.declared.TxSet.{TxSet}
-use Rattle.txset.specs.Sets.{mem, members, size}
+use Rattle.txset.specs.Sets.{mem}
 use Rattle.feeset.specs.Scan.{ranks_above}
 use Rattle.output_order.specs.Rounds.{freed}
-use Rattle.output_order.proofs.Choices.{Found, Next, found_start, found_stop, next_less, found_skip, found_first, found_yields, found_keeps, best_alone}
+use Rattle.output_order.proofs.Choices.{Next, found_start, found_stop, next_less, found_skip, found_first, found_yields, found_keeps, best_alone}
 use Rattle.output_order.proofs.Ready.{freed_is, freed_alone}
 use Rattle.output_order.proofs.next_member.Goals as goal
 use Rattle.output_order.proofs.next_member.Goals.{After-is_greater, After-is_subset, After-without_lowest-rest}

@@ -1,9 +1,8 @@
-use Prim.Native.Nat.{◌-◌, ◌<◌}
+use Prim.Native.Nat.{◌<◌}
 use native.Mathlib.Omega.{arith}
 use mathlib.Core.Path.{sym, ◌∙◌}
-use borrow.Author.Rules.{rules}
 use Rattle.txset.specs.Sets.{positions}
-use Rattle.output_order.proofs.Surveying.{Surveying, survey_start, survey_turn, survey_sums, survey_drops}
+use Rattle.output_order.proofs.Surveying.{survey_start, survey_turn, survey_sums, survey_drops}
 use Rattle.output_order.proofs.survey.Goals as goal
 use Rattle.output_order.proofs.survey.Goals.{In-loop-k}
 

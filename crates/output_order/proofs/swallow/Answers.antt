@@ -3,12 +3,9 @@ use native.Mathlib.Omega.{arith}
 use mathlib.Core.Path.{◌≡◌, refl, sym, ap, ◌∙◌}
 use mathlib.Core.Bool.{◌||◌}
 use lib.ListN.{length}
-use borrow.Author.Rules.{rules}
-use borrow.Author.Tests.{not-true, not-false}
-use Rattle.feefrac.specs.Rate.{rate_at, sum, higher}
+use Rattle.feefrac.specs.Rate.{sum, higher}
 use Rattle.txset.specs.declared.TxSet.{TxSet}
 use Rattle.txset.specs.Sets.{positions, mem}
-use Rattle.output_order.specs.Steps.{Growing}
 use Rattle.output_order.proofs.Cutting.{grow_start, grow_turn, stopped_empty, stopped_top}
 use Rattle.output_order.proofs.swallow.Goals as goal
 use Rattle.output_order.proofs.swallow.Goals.{Else-not-higher_rate}
