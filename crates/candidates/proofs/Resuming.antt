@@ -3,17 +3,17 @@ use mathlib.Core.Path.{◌≡◌, refl, sym, ap, ap₂, ◌∙◌}
 use mathlib.Core.Bool.{Bool, true, false, cond, not, ◌&&◌, and-true, and-false}
 use mathlib.Core.Logic.{⊎_elim}
 use mathlib.Core.List.{List, [], ◌∷◌, ◌++◌, append-nil}
-use Prim.Native.Nat.{ℕ, zero, suc, ◌+◌, ◌-◌, ◌≤◌, ◌<◌}
+use Prim.Native.Nat.{ℕ, ◌+◌, ◌-◌, ◌≤◌, ◌<◌}
 use native.Mathlib.Nat.{eq-or-lt_of_le}
 use native.Mathlib.Omega.{arith}
 use lib.Dec.{eqb, ltb, leb}
 use lib.ListN.{length, get_or, set, length-set}
 use lib.Seq.{get_or-set_same, get_or-set_other}
-use borrow.Author.Tests.{ltb-true, ltb-false, lt-ltb, le-ltb, leb-true, leb-false, lt-leb, le-leb, eqb-true, eqb-false, eq-eqb, ne_eqb}
+use borrow.Author.Tests.{lt-ltb, le-ltb, leb-true, lt-leb, le-leb, eq-eqb, ne_eqb}
 use Rattle.lists.specs.Below.{keep_if, list_from}
 use Rattle.lists.specs.Lists.{any_of, elem}
 use Rattle.lists.proofs.Numbers.{lt_or_ge}
-use Rattle.lists.proofs.Bools.{clash, and_left, and_right, or_left, or_right, cases}
+use Rattle.lists.proofs.Bools.{clash, and_left, and_right}
 use Rattle.lists.proofs.Below.{list_ext, list_split, list_nil, at_none, list_none, elem_in, elem_below, first_is}
 use Rattle.txset.specs.declared.TxSet.{TxSet}
 use Rattle.txset.specs.Sets.{positions, is_position, mem, members, is_empty, lowest_of}

@@ -1,6 +1,6 @@
 -- The cut: what is held of a chunk, the lists that serve as its stack as a pile of chunks, and the loops of `swallow` and `cut` as records over
 -- plain values, with a law for each thing that the code does: it starts, takes a turn, is done. Assumes nothing.
-use Prim.Native.Nat.{ℕ, zero, suc, ◌+◌, ◌-◌, ◌≤◌, ◌<◌, max}
+use Prim.Native.Nat.{ℕ, suc, ◌+◌, ◌-◌, ◌≤◌, ◌<◌, max}
 use native.Mathlib.Nat.{not-suc-le-zero}
 use native.Mathlib.Numerals.{add-one}
 use native.Mathlib.Omega.{arith}
@@ -22,10 +22,10 @@ use Rattle.feefrac.specs.Rate.{rate_at, sum, higher}
 use Rattle.feefrac.proofs.Lists as rates'
 use Rattle.txset.specs.declared.TxSet.{TxSet}
 use Rattle.txset.specs.Sets.{positions, is_position, mem, set_at, put_at, mem_at}
-use Rattle.txset.proofs.Sets.{position_and, put_same, put_other, length_put}
+use Rattle.txset.proofs.Sets.{put_same, put_other, length_put}
 use Rattle.chunking.specs.declared.Chunk.{Chunk}
 use Rattle.chunking.specs.Chunks.{swallow, chunks_after, lengths_of, chunk_lengths}
-use Rattle.chunking.specs.Orders.{cut, chunks_of, chunk_at}
+use Rattle.chunking.specs.Orders.{cut, chunks_of}
 use Rattle.output_order.specs.declared.Piece.{Piece}
 use Rattle.output_order.specs.Steps.{All, needed, Holds, Stack, Cut, Alone, Piled, in_order, rated, rated_pile, HeldAt, Grown, Growing, Swallowed}
 
@@ -311,7 +311,8 @@ module _ {fs : List ℤ} {ss ancestors order sets outsides tops : List ℕ} {sum
           place = omega (arith, g.place);
           piled = (
             rw (g.place, here, here', top) g.holds,
-            piled_same _ _ g.below (λ j x m y.
+            piled_same (HeldAt (length fs) (mem_at ancestors) sets outsides tops)
+                (HeldAt (length fs) (mem_at ancestors) (put_at sets k q.set) (put_at outsides k q.outside) (set tops k q.top)) g.below (λ j x m y.
                 let n : k ≡ j → ⊥ = λ z. omega (arith, g.place) in
                 rw (put_other sets k j q.set n, put_other outsides k j q.outside n, get_or-set_other tops k j q.top 0 (λ z. n (sym z))) y)
                 g.piled,

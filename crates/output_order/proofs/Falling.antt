@@ -1,8 +1,8 @@
 -- Feerates that fall: none is higher than one before it, and none has the size zero, so that `higher` chains. Assumes nothing.
 use Prim.Native.Nat.{ℕ, ◌+◌, ◌-◌, ◌≤◌, ◌<◌}
 use native.Mathlib.Omega.{arith}
-use mathlib.Core.Path.{◌≡◌, sym, ap, ◌∙◌}
-use mathlib.Core.Bool.{Bool, true, false, ◌&&◌, ◌||◌}
+use mathlib.Core.Path.{◌≡◌, sym, ◌∙◌}
+use mathlib.Core.Bool.{true, false, ◌&&◌, ◌||◌}
 use mathlib.Core.Logic.{⊎_elim}
 use lib.Dec.{eqb}
 use borrow.Author.Count.{below_more}

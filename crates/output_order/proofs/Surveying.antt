@@ -12,7 +12,6 @@ use Rattle.feefrac.specs.declared.FeeFrac.{FeeFrac}
 use Rattle.feefrac.specs.Rate.{rate_at}
 use Rattle.feefrac.proofs.Lists as rates'
 use Rattle.txset.specs.declared.TxSet.{TxSet}
-use Rattle.lists.specs.Below.{list_from}
 use Rattle.lists.specs.Lists.{elem}
 use Rattle.txset.specs.Sets.{positions, mem, members, set_at}
 use Rattle.lists.proofs.Ranges.{list_below}

@@ -11,7 +11,6 @@ use Rattle.chunking.specs.Chunks.{swallow}
 use Rattle.chunking.specs.Orders.{chunk_at}
 use Rattle.output_order.specs.declared.Piece.{Piece}
 use Rattle.output_order.specs.declared.Fall.{Fall}
-use Rattle.output_order.specs.Output.{chunk_rate}
 
 -- `all` is the set of the n members, at most 64
 pub record All (n : ℕ) (all : TxSet) : Type 0 where

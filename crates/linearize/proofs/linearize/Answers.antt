@@ -2,105 +2,115 @@ use Prim.Native.Nat.{ℕ, ◌≤◌}
 use native.Mathlib.Omega.{arith}
 use mathlib.Core.Path.{◌≡◌, refl, sym, ap, ◌∙◌}
 use mathlib.Core.List.{List}
+use mathlib.Core.Bool.{false}
+use lib.IntN.{ℤ}
 use lib.ListN.{length}
-use borrow.Author.Rules.{rules}
 use borrow.Author.Tests.{lt-ltb, le-ltb}
 use Rattle.txset.specs.Sets.{positions}
-use Rattle.refusals.specs.Refusals.{Line, success}
+use Rattle.refusals.specs.Refusals.{any_outside, success}
 use Rattle.refusals.proofs.Laws.{outside_some, outside_none}
 use Rattle.refusals.proofs.Lines.{Past, Takes, none_past, past, stop, all_past, refuses_keeps, succeeds_writes}
 use Rattle.post_linearize.proofs.Checks.{sizes_differ, parents_differ, all_alike, others}
 use Rattle.linearize.specs.Linearize.{refusals, reply, room_after}
 use Rattle.linearize.proofs.Few.{few_acyclic, none_order, alone_order, none_room, alone_room}
 use Rattle.linearize.proofs.linearize.Goals as goal
-use Rattle.linearize.proofs.linearize.Goals.{After-slice_known-1, Else-first_outside-n, Else-n-gt-POSITIONS, Else-parents-n, Else-room-n, Start}
-
-abbrev lines : After-slice_known-1 → List Line
-lines k = let a = k.args in refusals a.fees.now a.sizes.now a.parents.now a.room.now
 
 -- the tests that were passed
-past_0 : (k : After-slice_known-1) → Past (lines k) 0
-unfolding refusals
-past_0 k = none_past refl
+module _ (fs : List ℤ) (ss ps room : List ℕ) (s : length ss ≡ length fs) (p : length ps ≡ length fs) where
+  past_1 : Past (refusals fs ss ps room) 1
+  unfolding refusals
+  past_1 = past (none_past refl) (all_alike _ _ _ s p)
 
-past_1 : (e : Else-parents-n) → Past (lines e.before.before) 1
-unfolding refusals
-past_1 e = past (past_0 e.before.before) (all_alike _ _ _ e.if-sizes-n.false e.if-parents-n.false)
+  module _ (few : length fs ≤ positions) where
+    past_2 : Past (refusals fs ss ps room) 2
+    unfolding refusals
+    past_2 = past past_1 (le-ltb positions _ few)
 
-past_2 : (e : Else-n-gt-POSITIONS) → Past (lines e.before.before.before) 2
-unfolding refusals
-past_2 e = past (past_1 e.before) (le-ltb positions _ e.if-n-gt-POSITIONS.false)
+    module _ (wide : length fs ≤ length room) where
+      past_3 : Past (refusals fs ss ps room) 3
+      unfolding refusals
+      past_3 = past past_2 (le-ltb _ _ wide)
 
-past_3 : (e : Else-room-n) → Past (lines e.before.before.before.before) 3
-unfolding refusals
-past_3 e = past (past_2 e.before) (le-ltb _ _ e.if-room-n.false)
+      module _ (in-range : any_outside fs ≡ false) where
+        past_4 : Past (refusals fs ss ps room) 4
+        unfolding refusals
+        past_4 = past past_3 in-range
 
-past_4 : (e : Else-first_outside-n) → Past (lines e.before.before.before.before.before.before) 4
-unfolding refusals
-past_4 e = past (past_3 e.before.before) (outside_none _ (omega (arith, e.first_outside.ensures, e.if-first_outside-n.false)))
+        -- no cycle among one member or none: nothing is refused
+        takes : length fs ≤ 1 → Takes (refusals fs ss ps room)
+        unfolding refusals
+        takes h = all_past (past past_4 (few_acyclic _ (omega arith))) refl
 
 pub returns-then-sizes-n : goal.returns-then-sizes-n
 unfolding reply room_after refusals
-returns-then-sizes-n c = refuses_keeps _ _ _ _ (stop (past_0 c.before.before) (sizes_differ _ _ _ c.if-sizes-n.true)) c.refused.ensures
+returns-then-sizes-n c =
+    let h = refuses_keeps _ _ _ _ (stop (none_past refl) (sizes_differ _ _ _ c.if-sizes-n.true)) c.refused.ensures in
+    record { value = h.0; room_after = h.1 }
 
 pub returns-then-parents-n : goal.returns-then-parents-n
 unfolding reply room_after refusals
-returns-then-parents-n c = refuses_keeps _ _ _ _ (stop (past_0 c.before.before.before) (parents_differ _ _ _ c.if-parents-n.true)) c.refused-then-parents-n.ensures
+returns-then-parents-n c =
+    let h = refuses_keeps _ _ _ _ (stop (none_past refl) (parents_differ _ _ _ c.if-parents-n.true)) c.refused-then-parents-n.ensures in
+    record { value = h.0; room_after = h.1 }
 
 pub returns-then-n-gt-POSITIONS : goal.returns-then-n-gt-POSITIONS
 unfolding reply room_after refusals
-returns-then-n-gt-POSITIONS c = refuses_keeps _ _ _ _ (stop (past_1 c.before.before) (lt-ltb positions _ c.if-n-gt-POSITIONS.true)) c.refused-then-n-gt-POSITIONS.ensures
+returns-then-n-gt-POSITIONS c = let a = c.args in
+    let h =
+    refuses_keeps _ _ _ _
+    (stop (past_1 a.fees.now a.sizes.now a.parents.now a.room.now c.if-sizes-n.false c.if-parents-n.false) (lt-ltb positions _ c.if-n-gt-POSITIONS.true))
+    c.refused-then-n-gt-POSITIONS.ensures in
+    record { value = h.0; room_after = h.1 }
 
 pub returns-then-room-n : goal.returns-then-room-n
 unfolding reply room_after refusals
-returns-then-room-n c = refuses_keeps _ _ _ _ (stop (past_2 c.before.before) (lt-ltb _ _ c.if-room-n.true)) c.refused-then-room-n.ensures
+returns-then-room-n c = let a = c.args in
+    let h =
+    refuses_keeps _ _ _ _
+    (stop (past_2 a.fees.now a.sizes.now a.parents.now a.room.now c.if-sizes-n.false c.if-parents-n.false c.if-n-gt-POSITIONS.false) (lt-ltb _ _ c.if-room-n.true))
+    c.refused-then-room-n.ensures in
+    record { value = h.0; room_after = h.1 }
 
 pub returns-then-first_outside-n : goal.returns-then-first_outside-n
 unfolding reply room_after refusals
-returns-then-first_outside-n c = let o = c.before.before in
-    refuses_keeps _ _ _ _ (stop (past_3 o.before) (outside_some _ (omega (arith, o.first_outside.ensures)))) c.refused-then-first_outside-n.ensures
-
--- once the fees are seen to be in their range: what the tests before leave
-module _ (e : Else-first_outside-n) where
-  start : Start
-  start = e.before.before.before.before.before.before.before.before.before
-
-  few : length start.args.fees.now ≤ positions
-  unfolding start
-  few = e.if-n-gt-POSITIONS.false
-
-  wide : length start.args.fees.now ≤ length start.args.room.now
-  unfolding start
-  wide = e.if-room-n.false
-
-  as_long : length start.args.parents.now ≡ length start.args.fees.now
-  unfolding start
-  as_long = e.if-parents-n.false
-
-  -- no cycle among one member or none: nothing is refused
-  takes : length start.args.fees.now ≤ 1 → Takes (lines e.before.before.before.before.before.before)
-  unfolding start refusals
-  takes h = all_past (past (past_4 e) (few_acyclic _ (omega (arith, as_long)))) refl
+returns-then-first_outside-n c = let a = c.args in
+    let h =
+    refuses_keeps _ _ _ _
+    (stop (past_3 a.fees.now a.sizes.now a.parents.now a.room.now c.if-sizes-n.false c.if-parents-n.false c.if-n-gt-POSITIONS.false c.if-room-n.false)
+    (outside_some _ (omega (arith, c.if-first_outside-n.true, c.first_outside.ensures))))
+    c.refused-then-first_outside-n.ensures in
+    record { value = h.0; room_after = h.1 }
 
 pub returns-then-n-eq0 : goal.returns-then-n-eq0
-unfolding reply room_after start
-returns-then-n-eq0 c = let e = c.before.before in
-    let o = none_order _ _ _ (as_long e) c.if-n-eq0.true in
-    succeeds_writes _ _ _ _ (takes e (omega (arith, c.if-n-eq0.true))) (c.wrote.ensures ∙ ap (λ (l : List ℕ). success (length l)) (sym o)) (none_room _ _ o)
+unfolding reply room_after
+returns-then-n-eq0 c = let a = c.args in
+    let in-range = outside_none a.fees.now (omega (arith, c.first_outside.ensures, c.if-first_outside-n.false)) in
+    let o = none_order a.fees.now a.sizes.now a.parents.now c.if-parents-n.false c.if-n-eq0.true in
+    let h =
+    succeeds_writes _ _ _ _
+    (takes a.fees.now a.sizes.now a.parents.now a.room.now c.if-sizes-n.false c.if-parents-n.false c.if-n-gt-POSITIONS.false c.if-room-n.false in-range (omega (arith, c.if-n-eq0.true)))
+    (c.wrote.ensures ∙ ap (λ (l : List ℕ). success (length l)) (sym o))
+    (none_room _ _ o) in
+    record { value = h.0; room_after = h.1 }
 
 pub returns-then-n-eq1 : goal.returns-then-n-eq1
-unfolding reply room_after start
-returns-then-n-eq1 c = let t = c.before in
-    let e = t.before.before in
-    let o = alone_order _ _ _ (as_long e) t.if-n-eq1.true in
-    succeeds_writes _ _ _ _ (takes e (omega (arith, t.if-n-eq1.true))) (c.wrote-then-n-eq1.ensures ∙ ap (λ (l : List ℕ). success (length l)) (sym o))
-    (alone_room _ _ o (omega (arith, wide e, t.if-n-eq1.true)))
+unfolding reply room_after
+returns-then-n-eq1 c = let a = c.args in
+    let in-range = outside_none a.fees.now (omega (arith, c.first_outside.ensures, c.if-first_outside-n.false)) in
+    let o = alone_order a.fees.now a.sizes.now a.parents.now c.if-parents-n.false c.if-n-eq1.true in
+    let h =
+    succeeds_writes _ _ _ _
+    (takes a.fees.now a.sizes.now a.parents.now a.room.now c.if-sizes-n.false c.if-parents-n.false c.if-n-gt-POSITIONS.false c.if-room-n.false in-range (omega (arith, c.if-n-eq1.true)))
+    (c.wrote-then-n-eq1.ensures ∙ ap (λ (l : List ℕ). success (length l)) (sym o))
+    (alone_room _ _ o (omega (arith, c.if-room-n.false, c.if-n-eq1.true))) in
+    record { value = h.0; room_after = h.1 }
 
 pub order_cluster-requires : goal.order_cluster-requires
-unfolding start
-order_cluster-requires c = let e = c.before.before.before in record { same = as_long e; few = few e; wide = wide e }
+order_cluster-requires c = record { same = c.if-parents-n.false; few = c.if-n-gt-POSITIONS.false; wide = c.if-room-n.false }
 
 pub returns : goal.returns
-unfolding reply room_after refusals start
-returns c = let o = c.before.before in
-    others (past_4 o.before.before.before.before) _ _ _ _ o.order_cluster.ensures.value o.order_cluster.ensures.room_after
+unfolding reply room_after refusals
+returns c = let a = c.args in
+    let in-range = outside_none a.fees.now (omega (arith, c.first_outside.ensures, c.if-first_outside-n.false)) in
+    let h = others (past_4 a.fees.now a.sizes.now a.parents.now a.room.now c.if-sizes-n.false c.if-parents-n.false c.if-n-gt-POSITIONS.false c.if-room-n.false in-range) _ _ _ _ c.order_cluster.ensures.value c.order_cluster.ensures.room_after in
+    record { value = h.0; room_after = h.1 }

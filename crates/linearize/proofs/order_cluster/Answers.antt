@@ -1,15 +1,13 @@
 use native.Mathlib.Omega.{arith}
-use borrow.Author.Rules.{rules}
 use Rattle.post_linearize.proofs.Checks.{new_room}
 use Rattle.linearize.proofs.order_cluster.Goals as goal
 
 pub order_in-requires : goal.order_in-requires
-order_in-requires c = let t = c.before.before.before.before in
-    let h = t.requires in record {
-      checked = h;
-      room = new_room 8 (omega (arith, h.same, t.if-fees-le-FEW.true)) (omega (arith, h.same, t.if-fees-le-FEW.true));
-      fees_in_bounds = t.if-fees-le-FEW.true;
-    }
+order_in-requires c = let h = c.requires in record {
+  checked = h;
+  room = new_room 8 (omega (arith, h.same, c.if-fees-le-FEW.true)) (omega (arith, h.same, c.if-fees-le-FEW.true));
+  fees_in_bounds = c.if-fees-le-FEW.true;
+}
 
 pub order_in-requires-2 : goal.order_in-requires-2
 order_in-requires-2 c = let h = c.requires in record {

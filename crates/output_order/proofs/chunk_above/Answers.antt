@@ -1,4 +1,3 @@
-use borrow.Author.Rules.{rules}
 use mathlib.Core.Path.{ap, ap₂, ◌∙◌}
 use Rattle.feefrac.specs.Rate.{rank_order, then_by, is_greater}
 use Rattle.output_order.specs.Rounds.{sum_above}
@@ -6,9 +5,8 @@ use Rattle.output_order.proofs.chunk_above.Goals as goal
 
 pub returns : goal.returns
 unfolding sum_above
-returns c = let tops = c.before.before in
-    let rank = tops.before.before.before in
+returns c =
     c.is_greater.ensures
     ∙ ap is_greater
     (c.then_by.ensures
-    ∙ ap₂ then_by (rank.rank-by_rank.ensures ∙ ap₂ rank_order rank.at.ensures rank.at-2.ensures) tops.compare_sizes-by_top.ensures)
+    ∙ ap₂ then_by (c.rank-by_rank.ensures ∙ ap₂ rank_order c.at.ensures c.at-2.ensures) c.compare_sizes-by_top.ensures)

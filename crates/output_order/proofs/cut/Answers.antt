@@ -1,58 +1,36 @@
-use Prim.Native.Nat.{◌-◌, ◌<◌}
+use Prim.Native.Nat.{◌<◌}
 use native.Mathlib.Omega.{arith}
 use mathlib.Core.Path.{refl, sym, ◌∙◌}
-use lib.ListN.{length}
-use borrow.Author.Rules.{rules}
 use Rattle.txset.specs.Sets.{positions}
-use Rattle.output_order.proofs.Cutting.{Cutting, cut_start, cut_place, cut_turn, cut_done}
+use Rattle.output_order.proofs.Cutting.{cut_start, cut_place, cut_turn, cut_done}
 use Rattle.output_order.proofs.cut.Goals as goal
 use Rattle.output_order.proofs.cut.Goals.{After-swallow-whole}
 
 pub swallow-whole-requires : goal.swallow-whole-requires
-swallow-whole-requires c = let one = c.before.before.before.before.before in
-    let turn = one.before.before in
-    let loop = turn.before in
-    let pre = loop.requires in
-    (omega (arith, one.alone-one.ensures.place, loop.loop-i.invariant.few, turn.loop-i-test.true, pre.all.few, pre.order_in_bounds), loop.loop-i.invariant.stack.tops_long)
+swallow-whole-requires c = let pre = c.requires in
+    (omega (arith, c.alone-one.ensures.place, c.loop-i.invariant.few, c.loop-i-test.true, pre.all.few, pre.order_in_bounds), c.loop-i.invariant.stack.tops_long)
 
 -- there is a place for what is pushed
 place : (c : After-swallow-whole) → c.swallow-whole.result.at < positions
-place c =
-    let one = c.before.before.before.before.before.before in
-    let turn = one.before.before in
-    let loop = turn.before in
-    let pre = loop.requires in
-    cut_place loop.loop-i.invariant one.alone-one.ensures c.swallow-whole.ensures turn.loop-i-test.true (omega (arith, pre.all.few, pre.order_in_bounds))
+place c = let pre = c.requires in
+    cut_place c.loop-i.invariant c.alone-one.ensures c.swallow-whole.ensures c.loop-i-test.true (omega (arith, pre.all.few, pre.order_in_bounds))
 
 pub offset_bounds-tops-at : goal.offset_bounds-tops-at
-offset_bounds-tops-at c = record { fits = omega (arith, place c.before.before.before.before.before.before.before.before) }
+offset_bounds-tops-at c = record { fits = omega (arith, place (goal.at.offset_bounds-tops-at c).After-swallow-whole) }
 
 pub bounds-tops-at : goal.bounds-tops-at
-bounds-tops-at c = let made = c.before.before.before.before.before.before.before.before in
-    let loop = made.before.before.before.before.before.before.before.before.before in
-    omega (arith, place made, loop.loop-i.invariant.stack.tops_long)
+bounds-tops-at c = omega (arith, place (goal.at.bounds-tops-at c).After-swallow-whole, c.loop-i.invariant.stack.tops_long)
 
 pub overflow_add-count : goal.overflow_add-count
-overflow_add-count c = let made = c.before.before.before.before.before.before.before.before.before.before.before.before.before.before in
-    record { fits = omega (arith, place made) }
+overflow_add-count c = record { fits = omega (arith, place (goal.at.overflow_add-count c).After-swallow-whole) }
 
 pub overflow_add-i : goal.overflow_add-i
-overflow_add-i c = let made = c.before.before.before.before.before.before.before.before.before.before.before.before.before.before in
-    let turn = made.before.before.before.before.before.before.before.before in
-    let pre = turn.requires in
-    record { fits = omega (arith, turn.loop-i-test.true, pre.all.few, pre.order_in_bounds) }
+overflow_add-i c = let pre = c.requires in record { fits = omega (arith, c.loop-i-test.true, pre.all.few, pre.order_in_bounds) }
 
 pub loop-i-preserved : goal.loop-i-preserved
-loop-i-preserved c = let rates = c.before.before.before in
-    let outside = rates.before.before.before.before.before in
-    let set = outside.before.before.before.before in
-    let made = set.before.before in
-    let one = made.before.before.before.before.before.before in
-    let turn = one.before.before in
-    let loop = turn.before in
-    let pre = loop.requires in
-    cut_turn loop.loop-i.invariant one.alone-one.ensures made.swallow-whole.ensures turn.loop-i-test.true (omega (arith, pre.all.few, pre.order_in_bounds))
-    set.put.ensures outside.put-in-loop-i.ensures refl rates.put-in-loop-i-2.ensures.fees_after rates.put-in-loop-i-2.ensures.sizes_after
+loop-i-preserved c = let pre = c.requires in
+    cut_turn c.loop-i.invariant c.alone-one.ensures c.swallow-whole.ensures c.loop-i-test.true (omega (arith, pre.all.few, pre.order_in_bounds))
+    c.put.ensures c.put-in-loop-i.ensures refl c.put-in-loop-i-2.ensures.fees_after c.put-in-loop-i-2.ensures.sizes_after
 
 pub returns : goal.returns
 returns c = let pre = c.requires in

@@ -1,10 +1,6 @@
-use Prim.Native.Nat.{◌-◌, ◌<◌}
-use native.Mathlib.Omega.{arith}
-use mathlib.Core.Path.{refl, sym, ◌∙◌}
+use Prim.Native.Nat.{◌-◌}
 use lib.ListN.{length}
-use borrow.Author.Rules.{rules}
-use Rattle.txset.specs.Sets.{positions}
-use Rattle.output_order.proofs.Cutting.{Cutting, cut_start, cut_place, cut_turn, cut_done}
+use Rattle.output_order.proofs.Cutting.{Cutting}
 use Rattle.output_order.proofs.cut.Given as goal
 
 abbrev pub invariant-loop-i : goal.invariant-loop-i

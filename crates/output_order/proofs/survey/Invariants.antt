@@ -1,9 +1,5 @@
-use Prim.Native.Nat.{◌-◌, ◌<◌}
-use native.Mathlib.Omega.{arith}
-use mathlib.Core.Path.{sym, ◌∙◌}
-use borrow.Author.Rules.{rules}
-use Rattle.txset.specs.Sets.{positions}
-use Rattle.output_order.proofs.Surveying.{Surveying, survey_start, survey_turn, survey_sums, survey_drops}
+use Prim.Native.Nat.{◌-◌}
+use Rattle.output_order.proofs.Surveying.{Surveying}
 use Rattle.output_order.proofs.survey.Given as goal
 
 abbrev pub invariant-loop-k : goal.invariant-loop-k
