@@ -7,7 +7,6 @@ use Rattle.cluster_reader.specs.declared.lines.Span.{Span}
 use Rattle.cluster_reader.specs.declared.lines.Value.TheVariants.{Between}
 use Rattle.cluster_reader.specs.Steps.{field_at}
 use native.Mathlib.Omega.{arith}
-use borrow.Author.Rules.{rules}
 use Rattle.texts.specs.Numerals.{number_of}
 use Rattle.cluster_reader.specs.Reading.{n_key}
 use Rattle.cluster_reader.specs.Lines.{value_of}

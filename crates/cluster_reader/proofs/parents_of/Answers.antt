@@ -3,12 +3,11 @@ use mathlib.Core.List.{List}
 use Prim.Native.Nat.{ℕ, ◌+◌, ◌-◌, ◌≤◌, ◌<◌, ◌^◌}
 use native.Mathlib.Omega.{arith}
 use lib.ListN.{length, take, drop}
-use borrow.Author.Rules.{rules}
 use Rattle.texts.specs.declared.numerals.Number.{Number}
 use Rattle.texts.specs.Numerals.{number_of}
 use Rattle.texts.specs.Places.{before, place_of}
 use Rattle.texts.proofs.Places.{place_before, place_le}
-use Rattle.cluster_reader.proofs.Named.{word_empty, word_with, word_insert, Named, nothing, start, bad_part, last, turn}
+use Rattle.cluster_reader.proofs.Named.{word_empty, word_insert, Named, nothing, start, bad_part, last, turn}
 use Rattle.cluster_reader.proofs.parents_of.Goals as goal
 
 pub returns-then-text-eq0 : goal.returns-then-text-eq0

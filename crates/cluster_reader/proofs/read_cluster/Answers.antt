@@ -3,9 +3,8 @@ use mathlib.Core.List.{[]}
 use Prim.Native.Nat.{◌+◌}
 use native.Mathlib.Omega.{arith}
 use lib.ListN.{drop}
-use borrow.Author.Rules.{rules}
 use Rattle.cluster_reader.specs.Reading.{read, members, told}
-use Rattle.cluster_reader.proofs.Reading.{malformed_left, many_left, Counted, read_malformed, read_many, read_count}
+use Rattle.cluster_reader.proofs.Reading.{malformed_left, many_left, read_malformed, read_many, read_count}
 use Rattle.cluster_reader.proofs.read_cluster.Goals as goal
 
 -- the first line gave a number of members

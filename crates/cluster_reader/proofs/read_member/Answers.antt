@@ -6,11 +6,10 @@ use lib.ListN.{drop}
 use mir.Syntax.{w64}
 use mir.Val.{SFits}
 use mir.Facts.{to_z-of_z}
-use borrow.Author.Rules.{rules, sfits_of}
+use borrow.Author.Rules.{rules}
 use Rattle.texts.specs.Numerals.{number_of, signed_of}
 use Rattle.texts.specs.Places.{behind}
 use Rattle.cluster_reader.specs.declared.lines.Span.{Span}
-use Rattle.cluster_reader.specs.Lines.{value_of}
 use Rattle.cluster_reader.specs.Reading.{fee_key, size_key, parents_key}
 use Rattle.cluster_reader.specs.declared.lines.Value.TheVariants.{Between}
 use Rattle.cluster_reader.specs.Steps.{parents_in, field_at}

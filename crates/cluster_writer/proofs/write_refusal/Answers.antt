@@ -7,4 +7,7 @@ use Rattle.cluster_writer.proofs.write_refusal.Goals as goal
 
 pub returns : goal.returns
 unfolding refusal_text
-returns c = at_start (writes c.write_line.ensures (record { fits = omega (arith, refusal_length c.args.number) }))
+returns c =
+    let w = c.write_line.ensures in
+    let r = at_start (writes (w.value, w.out_after) (record { fits = omega (arith, refusal_length c.args.number) })) in
+    record { value = r.0; out_after = r.1 }

@@ -5,7 +5,6 @@ use Prim.Native.Nat.{ℕ, ◌-◌}
 use native.Mathlib.Omega.{arith}
 use lib.ListN.{take, drop}
 use borrow.Author.Rules.{rules}
-use borrow.Author.Tests.{not-true, not-false}
 use Rattle.texts.specs.Places.{before}
 use Rattle.texts.proofs.Places.{place_before}
 use Rattle.cluster_reader.specs.Lines as spec

@@ -1,6 +1,5 @@
 use mathlib.Core.Path.{sym, ap, ◌∙◌}
 use native.Mathlib.Omega.{arith}
-use borrow.Author.Rules.{rules}
 use Rattle.cluster_reader.specs.declared.lines.Line.TheVariants.{Ends}
 use Rattle.cluster_reader.proofs.Places.{line_open, line_long, line_whole}
 use Rattle.cluster_reader.proofs.lines.line_end.Goals as goal

@@ -1,10 +1,5 @@
-use mathlib.Core.Path.{◌≡◌, refl, sym, ◌∙◌}
-use mathlib.Core.Bool.{false}
-use mathlib.Core.List.{List}
-use Prim.Native.Nat.{ℕ, ◌≤◌, ◌+◌, ◌-◌}
-use lib.ListN.{length, get_or, drop}
+use mathlib.Core.Path.{refl, sym, ◌∙◌}
 use borrow.Author.Rules.{rules}
-use Rattle.cluster_reader.specs.Lines as spec
 use Rattle.cluster_reader.proofs.Places.{starts_none, starts_short, starts_other, starts_turn}
 use Rattle.cluster_reader.proofs.lines.starts.Goals as goal
 
