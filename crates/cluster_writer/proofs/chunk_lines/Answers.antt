@@ -1,9 +1,7 @@
 use mathlib.Core.Path.{refl}
-use Prim.Native.Nat.{◌-◌}
-use lib.ListN.{length}
 use borrow.Author.Rules.{rules}
 use Rattle.texts.proofs.Append.{start}
-use Rattle.cluster_writer.proofs.Texts.{ChunksLeft, chunk_wrote, chunks_done}
+use Rattle.cluster_writer.proofs.Texts.{chunk_wrote, chunks_done}
 use Rattle.cluster_writer.proofs.chunk_lines.Goals as goal
 
 pub loop-k-init : goal.loop-k-init

@@ -1,8 +1,7 @@
-use mathlib.Core.Path.{◌≡◌, ◌∙◌}
+use mathlib.Core.Path.{◌∙◌}
 use mir.Syntax.{w64}
 use mir.Facts.{to_z-of_z}
-use borrow.Author.Rules.{rules, sfits_of}
-use Rattle.feefrac.proofs.Signed.{Z}
+use borrow.Author.Rules.{sfits_of}
 use Rattle.texts.specs.Writing.{decimal, signed, text_line}
 use Rattle.texts.proofs.Append.{two, writes}
 use Rattle.cluster_writer.specs.Writing.{chunk_key, chunk_lines, rate_key, shown_rate}

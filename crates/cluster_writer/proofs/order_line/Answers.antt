@@ -1,6 +1,5 @@
 use mathlib.Core.List.{[], ◌∷◌}
-use borrow.Author.Rules.{rules}
-use Rattle.texts.specs.Writing.{commas, signed}
+use Rattle.texts.specs.Writing.{commas}
 use Rattle.texts.proofs.Append.{three, writes}
 use Rattle.cluster_writer.specs.Writing.{order_key}
 use Rattle.cluster_writer.proofs.order_line.Goals as goal

@@ -1,8 +1,7 @@
 use mir.Syntax.{w64}
 use mir.Facts.{to_z-of_z}
 use mathlib.Core.List.{[], ◌∷◌}
-use borrow.Author.Rules.{rules}
-use Rattle.texts.specs.Writing.{commas, signed}
+use Rattle.texts.specs.Writing.{signed}
 use Rattle.texts.proofs.Append.{three, writes}
 use Rattle.cluster_writer.specs.Writing.{rate_key}
 use Rattle.cluster_writer.proofs.rate_line.Goals as goal

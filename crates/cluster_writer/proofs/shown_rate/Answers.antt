@@ -1,13 +1,10 @@
-use mathlib.Core.Path.{◌≡◌, sym, ◌∙◌}
-use Prim.Native.Nat.{◌*◌, ◌/◌, min}
+use mathlib.Core.Path.{sym, ◌∙◌}
 use native.Mathlib.Omega.{arith}
-use lib.IntN.{pos, nat_abs}
 use mir.Syntax.{w64}
 use mir.Val.{SFits}
 use mir.Facts.{to_z-of_z, to_z_pos}
 use borrow.Author.Rules.{rules}
-use Rattle.feefrac.specs.declared.FeeFrac.{FeeFrac}
-use Rattle.feefrac.proofs.Signed.{Le, Lt, less, not_less, zero_fits, cast, more_fits, below_fits, below_cast, below_more, below_size}
+use Rattle.feefrac.proofs.Signed.{less, not_less, zero_fits, cast, more_fits, below_fits, below_cast, below_more, below_size}
 use Rattle.cluster_writer.specs.Writing.{shown_rate}
 use Rattle.cluster_writer.proofs.Rate.{turned_fits, turned_read, rate_up, rate_top, rate_down, rate_bottom}
 use Rattle.cluster_writer.proofs.shown_rate.Goals as goal

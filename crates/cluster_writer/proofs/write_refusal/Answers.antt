@@ -1,5 +1,4 @@
 use native.Mathlib.Omega.{arith}
-use borrow.Author.Rules.{rules}
 use Rattle.texts.proofs.Append.{at_start, writes}
 use Rattle.cluster_writer.specs.Writing.{refusal_text}
 use Rattle.cluster_writer.proofs.Texts.{refusal_length}

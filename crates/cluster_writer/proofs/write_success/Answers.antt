@@ -1,5 +1,4 @@
 use native.Mathlib.Omega.{arith}
-use borrow.Author.Rules.{rules}
 use Rattle.texts.specs.Writing.{text_line, commas}
 use Rattle.texts.proofs.Append.{three, writes}
 use Rattle.cluster_writer.specs.Writing.{order_key, refusal_text, success_text}
