@@ -1,13 +1,7 @@
-use mathlib.Core.Path.{◌≡◌, refl, sym, ap, ◌∙◌, subst}
+use mathlib.Core.Path.{◌≡◌}
 use mathlib.Core.List.{◌++◌}
-use Prim.Native.Nat.{ℕ, ◌≤◌, ◌-◌}
-use native.Mathlib.Omega.{arith}
-use lib.ListN.{set, take, drop}
-use lib.IntN.{pos}
-use borrow.Author.Rules.{rules}
-use Rattle.feefrac.specs.Rate.{rate_at}
-use Rattle.feefrac.specs.declared.FeeFrac.{FeeFrac}
-use Rattle.cluster_reader.proofs.Copies.{copy_turn}
+use Prim.Native.Nat.{◌≤◌, ◌-◌}
+use lib.ListN.{take, drop}
 use Rattle.cluster_reader.proofs.copy_rates.Given as goal
 
 abbrev pub invariant-loop-k : goal.invariant-loop-k

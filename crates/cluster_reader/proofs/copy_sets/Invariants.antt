@@ -1,12 +1,7 @@
-use mathlib.Core.Path.{◌≡◌, refl, sym, ap, ◌∙◌, subst}
+use mathlib.Core.Path.{◌≡◌}
 use mathlib.Core.List.{◌++◌}
-use Prim.Native.Nat.{ℕ, ◌≤◌, ◌-◌}
-use native.Mathlib.Omega.{arith}
-use lib.ListN.{set, take, drop}
-use borrow.Author.Rules.{rules}
-use Rattle.txset.specs.Sets.{set_at, put_at}
-use Rattle.txset.specs.declared.TxSet.{TxSet}
-use Rattle.cluster_reader.proofs.Copies.{copy_turn}
+use Prim.Native.Nat.{◌≤◌, ◌-◌}
+use lib.ListN.{take, drop}
 use Rattle.cluster_reader.proofs.copy_sets.Given as goal
 
 abbrev pub invariant-loop-k : goal.invariant-loop-k

@@ -1,5 +1,4 @@
 use mathlib.Core.Path.{sym, ap, ◌∙◌, subst}
-use borrow.Author.Rules.{rules}
 use Rattle.cluster_reader.specs.Calls.{Decided}
 use Rattle.cluster_reader.specs.Reading.{told}
 use Rattle.cluster_reader.proofs.Reading.{many_decided, malformed_decided, count_open, many_certain, malformed_certain}

@@ -1,51 +1,48 @@
 use mathlib.Core.Path.{refl, sym, ap, ◌∙◌}
-use Prim.Native.Nat.{◌-◌}
 use native.Mathlib.Omega.{arith}
 use lib.ListN.{set}
 use lib.Seq.{length-take-le}
 use mir.Syntax.{w64}
 use mir.Val.{SFits}
 use mir.Facts.{to_z-of_z}
-use borrow.Author.Rules.{rules, sfits_of}
+use borrow.Author.Rules.{rules}
 use Rattle.txset.specs.Sets.{put_at}
-use Rattle.cluster_reader.proofs.Reading.{Taken, none_taken, stop, turn, tail, done, member_lines, member_malformed, malformed_left, cluster_left}
+use Rattle.cluster_reader.proofs.Reading.{none_taken, stop, turn, tail, done, member_lines, member_malformed, malformed_left, cluster_left}
 use Rattle.cluster_reader.proofs.read_members.Goals as goal
 
 pub loop-i-init : goal.loop-i-init
-loop-i-init c = let s = c.before in
-    none_taken s.args.n s.args.text.now s.args.from _ _ _ s.requires.from_in_bounds refl refl refl
+loop-i-init c = none_taken c.args.n c.args.text.now c.args.from _ _ _ c.requires.from_in_bounds refl refl refl
 
 pub returns-in_default : goal.returns-in_default
-returns-in_default c = let r = c.before.before in
-    let d = r.before.before in
-    let e = sym r.read_member.ensures ∙ c.in_default.is in
-    malformed_left (stop d.loop-i.invariant r.loop-i-test.true (member_malformed d.args.text.now d.loop-i.at e))
+returns-in_default c =
+    let e = sym c.read_member.ensures ∙ c.in_default.is in
+    let l = malformed_left {fs = c.args.fees.now} {ss = c.args.sizes.now} {ps = c.args.parents.now} (stop c.loop-i.invariant c.loop-i-test.true (member_malformed c.args.text.now c.loop-i.at e)) in
+    record { result_value = l.0; fees_after = l.1.0; sizes_after = l.1.1.0; parents_after = l.1.1.1 }
 
 pub read_member-requires : goal.read_member-requires
 read_member-requires c = c.loop-i.invariant.within
 
 pub loop-i-preserved : goal.loop-i-preserved
-loop-i-preserved c = let p = c.before.before.before.before.before in
-    let m = p.before.before.before.before.before in
-    let r = m.before.before in
-    let d = r.before.before in
-    let e = sym r.read_member.ensures ∙ m.in-Read.is in
-    let h : SFits w64 m.in-Read.m.fee = sfits_of p.struct_told-1.given.0.1 in
-    turn d.loop-i.invariant r.loop-i-test.true d.requires.n_le_positions m.in-Read.m
-    (member_lines d.args.text.now d.loop-i.at m.in-Read.m e)
-    (p.put.ensures.fees_after ∙ ap (set d.loop-i.new_fees d.loop-i.i) (to_z-of_z h))
-    p.put.ensures.sizes_after
+unfolding put_at
+loop-i-preserved c =
+    let e = sym c.read_member.ensures ∙ c.in-Read.is in
+    let h : SFits w64 c.in-Read.m.fee = search rules in
+    turn c.loop-i.invariant c.loop-i-test.true c.requires.n_le_positions c.in-Read.m
+    (member_lines c.args.text.now c.loop-i.at c.in-Read.m e)
+    (c.put.ensures.fees_after ∙ ap (set c.loop-i.new_fees c.loop-i.i) (to_z-of_z h))
+    c.put.ensures.sizes_after
     c.put-in-loop-i.ensures
 
 pub returns-then-at-text : goal.returns-then-at-text
-returns-then-at-text c = let d = c.before in
-    malformed_left (tail d.loop-i.invariant d.loop-i-test.false (omega (arith, d.loop-i.invariant.within)))
+returns-then-at-text c =
+    let l = malformed_left {fs = c.args.fees.now} {ss = c.args.sizes.now} {ps = c.args.parents.now} (tail c.loop-i.invariant c.loop-i-test.false (omega (arith, c.loop-i.invariant.within))) in
+    record { result_value = l.0; fees_after = l.1.0; sizes_after = l.1.1.0; parents_after = l.1.1.1 }
 
 pub returns : goal.returns
-returns c = let s = c.before.before.before.before.before.before.before.before.before.before.before.before in
-    let d = c.before.before.before.before.before.before.before.before.before in
-    let rates = c.before.before.before in
-    cluster_left s.args.fees.now s.args.sizes.now s.args.parents.now s.args.n
-    (done d.loop-i.invariant d.loop-i-test.false (omega (arith, c.if-at-text.false)))
-    (length-take-le s.args.n d.loop-i.new_fees (omega (arith, s.requires.n_le_positions, d.loop-i.invariant.fees)))
-    rates.copy_rates.ensures.fees_after rates.copy_rates.ensures.sizes_after c.copy_sets.ensures
+returns c =
+    let l =
+    cluster_left c.args.fees.now c.args.sizes.now c.args.parents.now c.args.n
+    (done c.loop-i.invariant c.loop-i-test.false (omega (arith, c.if-at-text.false)))
+    (length-take-le c.args.n c.loop-i.new_fees (omega (arith, c.requires.n_le_positions, c.loop-i.invariant.fees)))
+    c.copy_rates.ensures.fees_after c.copy_rates.ensures.sizes_after c.copy_sets.ensures in
+    record { result_value = l.0; fees_after = l.1.0; sizes_after = l.1.1.0; parents_after = l.1.1.1 }

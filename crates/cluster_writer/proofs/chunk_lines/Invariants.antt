@@ -1,9 +1,6 @@
-use mathlib.Core.Path.{refl}
 use Prim.Native.Nat.{◌-◌}
 use lib.ListN.{length}
-use borrow.Author.Rules.{rules}
-use Rattle.texts.proofs.Append.{start}
-use Rattle.cluster_writer.proofs.Texts.{ChunksLeft, chunk_wrote, chunks_done}
+use Rattle.cluster_writer.proofs.Texts.{ChunksLeft}
 use Rattle.cluster_writer.proofs.chunk_lines.Given as goal
 
 abbrev pub invariant-loop-k : goal.invariant-loop-k

@@ -12,23 +12,17 @@ use Rattle.pool_reader.proofs.Asking.{no_txid_remove, more_remove, is_remove}
 use Rattle.pool_reader.proofs.read_remove.Goals as goal
 
 pub returns-in_default : goal.returns-in_default
-returns-in_default c = let r = c.read_txid in
-    λ ps. sym (no_txid_remove _ (txid_malformed c.args.line.now
-    c.args.from 0 c.args.txid.now r.new.1.1.0
-    c.in_default.is r.ensures))
+returns-in_default c =
+    λ ps. sym (no_txid_remove _ (txid_malformed c.args.line.now c.args.from 0 c.args.txid.now c.read_txid.new.out c.in_default.is c.read_txid.ensures))
 
 pub returns-then-end-line : goal.returns-then-end-line
-returns-then-end-line c = let r = c.read_txid in
-    let t = txid_at_lem c.args.line.now
-    c.args.from 0
-    c.args.txid.now r.new.1.1.0 c.in-At.is r.ensures in
+returns-then-end-line c =
+    let t = txid_at_lem c.args.line.now c.args.from 0 c.args.txid.now c.read_txid.new.out c.in-At.is c.read_txid.ensures in
     λ ps. sym (ap as_remove (t.words ∙ ap (λ (ws : List (List ℕ)). t.word ∷ ws) (words_next _ _ c.if-end-line.true)) ∙ more_remove _ _ _)
 
 pub returns : goal.returns
-returns c = let r = c.read_txid in
-    let t = txid_at_lem c.args.line.now
-    c.args.from 0
-    c.args.txid.now r.new.1.1.0 c.in-At.is r.ensures in
+returns c =
+    let t = txid_at_lem c.args.line.now c.args.from 0 c.args.txid.now c.read_txid.new.out c.in-At.is c.read_txid.ensures in
     let long : length c.args.txid.now ≡ 32 = search rules in
     λ ps.
     ap (λ (x : List ℕ). remove (txid_at x 0)) (txid_is long t)

@@ -1,8 +1,4 @@
-use mathlib.Core.Path.{◌≡◌, refl, sym, ◌∙◌}
-use Prim.Native.Nat.{◌-◌}
-use lib.ListN.{length}
-use borrow.Author.Rules.{rules}
-use Rattle.texts.specs.Places.{place_of}
+use mathlib.Core.Path.{refl, sym, ◌∙◌}
 use Rattle.texts.proofs.Places.{place_end, place_here, place_turn}
 use Rattle.texts.proofs.place.Goals as goal
 

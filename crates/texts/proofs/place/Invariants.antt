@@ -1,9 +1,7 @@
-use mathlib.Core.Path.{◌≡◌, refl, sym, ◌∙◌}
+use mathlib.Core.Path.{◌≡◌}
 use Prim.Native.Nat.{◌-◌}
 use lib.ListN.{length}
-use borrow.Author.Rules.{rules}
 use Rattle.texts.specs.Places.{place_of}
-use Rattle.texts.proofs.Places.{place_end, place_here, place_turn}
 use Rattle.texts.proofs.place.Given as goal
 
 abbrev pub invariant-loop-i : goal.invariant-loop-i

@@ -1,11 +1,10 @@
 use mathlib.Core.Path.{sym, ◌∙◌}
-use Prim.Native.Nat.{◌+◌, ◌-◌, ◌≤◌}
 use native.Mathlib.Nat.{add-zero}
-use lib.ListN.{length, drop, drop_of_length-le}
+use lib.ListN.{drop_of_length-le}
 use borrow.Author.Rules.{rules}
-use borrow.Author.Tests.{leb-true, leb-false, not-true, not-false}
+use borrow.Author.Tests.{leb-true, leb-false}
 use Rattle.texts.specs.Rooms.{Room}
-use Rattle.texts.proofs.Append.{Left, start, next_byte, done, put, put_none}
+use Rattle.texts.proofs.Append.{start, next_byte, done, put, put_none}
 use Rattle.texts.proofs.write_bytes.Goals as goal
 use Rattle.texts.proofs.write_bytes.Goals.{Else-not-fits}
 

@@ -1,11 +1,6 @@
-use mathlib.Core.Path.{sym, ◌∙◌}
 use Prim.Native.Nat.{◌+◌, ◌-◌, ◌≤◌}
-use native.Mathlib.Nat.{add-zero}
-use lib.ListN.{length, drop, drop_of_length-le}
-use borrow.Author.Rules.{rules}
-use borrow.Author.Tests.{leb-true, leb-false, not-true, not-false}
-use Rattle.texts.specs.Rooms.{Room}
-use Rattle.texts.proofs.Append.{Left, start, next_byte, done, put, put_none}
+use lib.ListN.{length, drop}
+use Rattle.texts.proofs.Append.{Left}
 use Rattle.texts.proofs.write_bytes.Given as goal
 
 abbrev pub invariant-loop-i : goal.invariant-loop-i

@@ -1,6 +1,5 @@
 use mathlib.Core.Path.{sym}
 use native.Mathlib.Omega.{arith}
-use borrow.Author.Rules.{rules}
 use Rattle.cluster_reader.proofs.Places.{has_line, only_long}
 use Rattle.cluster_reader.proofs.lines.has_end.Goals as goal
 

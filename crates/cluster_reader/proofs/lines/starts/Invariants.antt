@@ -1,11 +1,7 @@
-use mathlib.Core.Path.{◌≡◌, refl, sym, ◌∙◌}
-use mathlib.Core.Bool.{false}
-use mathlib.Core.List.{List}
-use Prim.Native.Nat.{ℕ, ◌≤◌, ◌+◌, ◌-◌}
-use lib.ListN.{length, get_or, drop}
-use borrow.Author.Rules.{rules}
+use mathlib.Core.Path.{◌≡◌}
+use Prim.Native.Nat.{◌≤◌, ◌-◌}
+use lib.ListN.{length, drop}
 use Rattle.cluster_reader.specs.Lines as spec
-use Rattle.cluster_reader.proofs.Places.{starts_none, starts_short, starts_other, starts_turn}
 use Rattle.cluster_reader.proofs.lines.starts.Given as goal
 
 abbrev pub invariant-loop-i : goal.invariant-loop-i

@@ -16,22 +16,18 @@ use Rattle.pool_reader.proofs.Reading.{numbers_malformed, numbers_at, not_only, 
 use Rattle.pool_reader.proofs.words.only_numbers.Goals as goal
 
 pub returns-in_default : goal.returns-in_default
-returns-in_default c = let r = c.read_numbers in
-    let text = c.args.text.now in
-    let values = r.new.1.1.0 in record {
-      value = sym (not_only _ values (numbers_malformed text c.args.from values
-          c.in_default.is r.ensures));
-      values_after = λ e. clash e refl;
-    }
+returns-in_default c =
+    let none = numbers_malformed c.args.text.now c.args.from c.read_numbers.new.values c.in_default.is c.read_numbers.ensures in
+    record { value = sym (not_only _ c.read_numbers.new.values none); values_after = λ e. clash e refl }
 
 pub returns : goal.returns
-returns c = let r = c.read_numbers in
+returns c =
     let text = c.args.text.now in
-    let values = r.new.1.1.0 in
-    let n = numbers_at text c.args.from values c.in-At.is
-    r.ensures in
-    let end = c.in-At.end in record {
-      value = ⊎_elim (λ l. lt-ltb (length text) end l ∙ sym (numbers_end n l).0) (λ l. le-ltb (length text) end l ∙ sym (numbers_more n l))
+    let n = numbers_at text c.args.from c.read_numbers.new.values c.in-At.is c.read_numbers.ensures in
+    let end = c.in-At.end in
+    record {
+      value =
+          ⊎_elim (λ l. lt-ltb (length text) end l ∙ sym (numbers_end n l).0) (λ l. le-ltb (length text) end l ∙ sym (numbers_more n l))
           (lt_or_ge (length text) end);
       values_after = λ e. (numbers_end n (ltb-true (length text) end e)).1;
     }

@@ -8,18 +8,14 @@ use Rattle.pool_reader.proofs.Reading.{Gathered, none_gathered, one_fits, no_txi
 use Rattle.pool_reader.proofs.words.read_txids.Goals as goal
 
 pub returns-in_default : goal.returns-in_default
-returns-in_default c = let r = c.before.before.before.before in
-    let head = r.before.before.before in
-    no_txid head.loop-at.invariant (omega (arith, r.loop-at-test.true))
-    (txid_malformed head.args.text.now head.loop-at.at head.loop-at.len head.loop-at.out r.read_txid.new.1.1.0
-    c.in_default.is r.read_txid.ensures)
+returns-in_default c =
+    no_txid c.loop-at.invariant (omega (arith, c.loop-at-test.true))
+    (txid_malformed c.args.text.now c.loop-at.at c.loop-at.len c.loop-at.out c.read_txid.new.out c.in_default.is c.read_txid.ensures)
 
 pub loop-at-preserved : goal.loop-at-preserved
-loop-at-preserved c = let r = c.before.before.before.before.before in
-    let head = c.before.before.before.before.before.before.before.before in
-    gathered head.loop-at.invariant (omega (arith, r.loop-at-test.true))
-    (txid_at_lem head.args.text.now head.loop-at.at head.loop-at.len head.loop-at.out r.read_txid.new.1.1.0
-    c.in-At.is r.read_txid.ensures)
+loop-at-preserved c =
+    gathered c.loop-at.invariant (omega (arith, c.loop-at-test.true))
+    (txid_at_lem c.args.text.now c.loop-at.at c.loop-at.len c.loop-at.out c.read_txid.new.out c.in-At.is c.read_txid.ensures)
 
 pub loop-at-init : goal.loop-at-init
 loop-at-init c = none_gathered _ _ _ c.requires.place c.requires.out_len
@@ -31,25 +27,17 @@ read_txid-requires c = record {
 }
 
 pub shape_of-out-in_default : goal.shape_of-out-in_default
-shape_of-out-in_default c = let i = c.loop-at.invariant in
+shape_of-out-in_default c =
+    let i = c.loop-at.invariant in
     let k = i.kept ∙ sym i.room in
     search rules
 
 pub overflow_add-len : goal.overflow_add-len
-overflow_add-len c = let head = c.before.before.before.before.before.before.before.before in
-    omega (
-      arith,
-      one_fits head.loop-at.invariant (omega
-          (arith, c.loop-at-test.true)),
-      head.loop-at.invariant.kept,
-    )
+overflow_add-len c = omega (arith, one_fits c.loop-at.invariant (omega (arith, c.loop-at-test.true)), c.loop-at.invariant.kept)
 
 pub loop-at-smaller : goal.loop-at-smaller
-loop-at-smaller c = let r = c.before.before.before.before.before in
-    let head = r.before.before.before in
-    let t =
-    txid_at_lem head.args.text.now head.loop-at.at head.loop-at.len head.loop-at.out r.read_txid.new.1.1.0
-    c.in-At.is r.read_txid.ensures in
+loop-at-smaller c =
+    let t = txid_at_lem c.args.text.now c.loop-at.at c.loop-at.len c.loop-at.out c.read_txid.new.out c.in-At.is c.read_txid.ensures in
     let some = c.loop-at-test.true in
     omega (arith, t.far)
 

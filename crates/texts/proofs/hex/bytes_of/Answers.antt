@@ -1,9 +1,7 @@
 use mathlib.Core.Path.{refl, sym}
-use Prim.Native.Nat.{◌-◌}
 use native.Mathlib.Omega.{arith}
-use borrow.Author.Rules.{rules}
 use Rattle.lists.proofs.Bools.{clash}
-use Rattle.texts.proofs.HexText.{Spelt, not_64, none_read, bad_high, bad_low, byte_read, all_read}
+use Rattle.texts.proofs.HexText.{not_64, none_read, bad_high, bad_low, byte_read, all_read}
 use Rattle.texts.proofs.hex.bytes_of.Goals as goal
 
 pub returns-then-text-ne64 : goal.returns-then-text-ne64
@@ -25,7 +23,7 @@ returns-then-low-gt15 c = record {
 }
 
 pub loop-i-preserved : goal.loop-i-preserved
-loop-i-preserved c = 
+loop-i-preserved c =
     let high = c.value-high.ensures in
     let low = c.value-low.ensures in
     rw (high, low) (byte_read c.loop-i.invariant c.loop-i-test.true (omega arith) (omega arith))

@@ -1,9 +1,5 @@
-use mathlib.Core.Path.{refl, sym}
 use Prim.Native.Nat.{◌-◌}
-use native.Mathlib.Omega.{arith}
-use borrow.Author.Rules.{rules}
-use Rattle.lists.proofs.Bools.{clash}
-use Rattle.texts.proofs.HexText.{Spelt, not_64, none_read, bad_high, bad_low, byte_read, all_read}
+use Rattle.texts.proofs.HexText.{Spelt}
 use Rattle.texts.proofs.hex.bytes_of.Given as goal
 
 abbrev pub invariant-loop-i : goal.invariant-loop-i

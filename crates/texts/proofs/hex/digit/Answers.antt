@@ -1,5 +1,4 @@
 use borrow.Author.Tests.{lt-ltb, le-ltb}
-use borrow.Author.Rules.{rules}
 use Rattle.texts.specs.Hex.{hex_digit}
 use Rattle.texts.proofs.hex.digit.Goals as goal
 

@@ -1,6 +1,5 @@
 use mathlib.Core.Path.{sym}
 use native.Mathlib.Omega.{arith}
-use borrow.Author.Rules.{rules}
 use Rattle.texts.proofs.HexText.{value_low, value_decimal, value_between, value_letter, value_high}
 use Rattle.texts.proofs.hex.value.Goals as goal
 

@@ -1,11 +1,8 @@
-use Prim.Native.Nat.{◌-◌}
 use native.Mathlib.Omega.{arith}
-use lib.ListN.{length}
-use borrow.Author.Rules.{rules}
 use Rattle.texts.specs.Hex.{hex_text}
 use Rattle.texts.specs.Rooms.{Room}
 use Rattle.texts.proofs.Append.{writes, put, put_none}
-use Rattle.texts.proofs.HexText.{HexLeft, text_length, hex_start, pair_wrote, hex_done}
+use Rattle.texts.proofs.HexText.{text_length, hex_start, pair_wrote, hex_done}
 use Rattle.texts.proofs.hex.write_hex.Goals as goal
 use Rattle.texts.proofs.hex.write_hex.Goals.{Else-out-at-2}
 
@@ -24,15 +21,12 @@ room : (c : Else-out-at-2)
 room c = record { fits = omega (arith, text_length c.args.bytes.now) }
 
 pub loop-i-preserved : goal.loop-i-preserved
-loop-i-preserved c = 
+loop-i-preserved c =
     let w = c.write_bytes-end.ensures in
     pair_wrote c.loop-i.invariant c.loop-i-test.true c.digit.ensures c.digit-in-loop-i.ensures (writes (w.value, w.out_after))
 
 pub loop-i-init : goal.loop-i-init
 loop-i-init c = hex_start (room (goal.at.loop-i-init c).Else-out-at-2)
-
-pub digit-requires : goal.digit-requires
-digit-requires c = omega (arith, c.shared_slice_known-in-loop-i-1.given c.loop-i.i)
 
 pub shape_of-out : goal.shape_of-out
 shape_of-out c = c.loop-i.invariant.left.long

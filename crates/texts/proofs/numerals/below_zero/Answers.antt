@@ -1,6 +1,5 @@
 use mathlib.Core.Path.{sym, ap}
 use Prim.Native.Nat.{ℕ}
-use borrow.Author.Rules.{rules}
 use Rattle.texts.specs.declared.numerals.Number.TheVariants.{Value}
 use Rattle.texts.specs.Numerals.{negative}
 use Rattle.texts.proofs.Decimals.{negative_large, turned_fits, negative_fits}

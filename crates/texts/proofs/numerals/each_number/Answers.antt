@@ -1,9 +1,5 @@
-use Prim.Native.Nat.{◌-◌}
 use native.Mathlib.Omega.{arith}
-use lib.ListN.{length}
-use borrow.Author.Rules.{rules}
-use Rattle.texts.specs.Writing.{decimal}
-use Rattle.texts.proofs.Numbers.{ItemsLeft, items_start, item_wrote, items_done}
+use Rattle.texts.proofs.Numbers.{items_start, item_wrote, items_done}
 use Rattle.texts.proofs.numerals.each_number.Goals as goal
 
 pub loop-done-init : goal.loop-done-init

@@ -1,9 +1,7 @@
 use Prim.Native.Nat.{◌-◌}
-use native.Mathlib.Omega.{arith}
 use lib.ListN.{length}
-use borrow.Author.Rules.{rules}
 use Rattle.texts.specs.Writing.{decimal}
-use Rattle.texts.proofs.Numbers.{ItemsLeft, items_start, item_wrote, items_done}
+use Rattle.texts.proofs.Numbers.{ItemsLeft}
 use Rattle.texts.proofs.numerals.each_number.Given as goal
 
 abbrev pub invariant-loop-done : goal.invariant-loop-done

@@ -1,5 +1,4 @@
 use native.Mathlib.Omega.{arith}
-use borrow.Author.Rules.{rules}
 use Rattle.texts.specs.Writing.{decimal}
 use Rattle.texts.proofs.Digits.{decimal_length}
 use Rattle.texts.proofs.Append.{at_start}

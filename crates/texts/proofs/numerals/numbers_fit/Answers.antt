@@ -1,10 +1,6 @@
 use mathlib.Core.Path.{sym}
-use Prim.Native.Nat.{◌-◌}
 use native.Mathlib.Omega.{arith}
-use lib.ListN.{length}
-use borrow.Author.Rules.{rules}
-use Rattle.texts.specs.Writing.{decimal}
-use Rattle.texts.proofs.Numbers.{Measured, measure_start, too_many, measured, all_fit}
+use Rattle.texts.proofs.Numbers.{measure_start, too_many, measured, all_fit}
 use Rattle.texts.proofs.numerals.numbers_fit.Goals as goal
 
 pub returns-then-left-len : goal.returns-then-left-len

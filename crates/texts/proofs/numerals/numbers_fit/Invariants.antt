@@ -1,10 +1,7 @@
-use mathlib.Core.Path.{sym}
 use Prim.Native.Nat.{◌-◌}
-use native.Mathlib.Omega.{arith}
 use lib.ListN.{length}
-use borrow.Author.Rules.{rules}
 use Rattle.texts.specs.Writing.{decimal}
-use Rattle.texts.proofs.Numbers.{Measured, measure_start, too_many, measured, all_fit}
+use Rattle.texts.proofs.Numbers.{Measured}
 use Rattle.texts.proofs.numerals.numbers_fit.Given as goal
 
 abbrev pub invariant-loop-k : goal.invariant-loop-k

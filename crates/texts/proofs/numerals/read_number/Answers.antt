@@ -1,10 +1,6 @@
 use mathlib.Core.Path.{sym}
-use mathlib.Core.Logic.{⊎_elim}
 use native.Mathlib.Omega.{arith}
-use Prim.Native.Nat.{◌-◌}
-use lib.ListN.{length}
-use borrow.Author.Rules.{rules}
-use Rattle.texts.proofs.Decimals.{no_digits, extra_zero, one_byte, no_zero, Spelt, start, done, below_digits, above_digits, overflows, turn}
+use Rattle.texts.proofs.Decimals.{no_digits, extra_zero, one_byte, no_zero, start, done, below_digits, above_digits, overflows, turn}
 use Rattle.texts.proofs.numerals.read_number.Goals as goal
 use Rattle.texts.proofs.numerals.read_number.Goals.{then-text-gt1+else-text-eq48, else-text-gt1}
 
@@ -33,6 +29,3 @@ loop-i-preserved c = turn c.loop-i.invariant c.loop-i-test.true
 
 pub returns : goal.returns
 returns c = sym (done c.loop-i.invariant c.loop-i-test.false)
-
-pub overflow_cast-digit : goal.overflow_cast-digit
-overflow_cast-digit c = omega (arith, c.shared_slice_known-in-loop-i-1.given c.loop-i.i)

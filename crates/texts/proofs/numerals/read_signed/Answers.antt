@@ -3,7 +3,6 @@ use Prim.Native.Nat.{◌-◌}
 use native.Mathlib.Omega.{arith}
 use lib.ListN.{length, drop, length-drop}
 use lib.Seq.{take_all}
-use borrow.Author.Rules.{rules}
 use Rattle.texts.specs.Numerals.{negative, positive, number_of, signed_of}
 use Rattle.texts.proofs.Decimals.{no_text, minus, no_minus, positive_large, positive_fits}
 use Rattle.texts.proofs.numerals.read_signed.Goals as goal
@@ -32,11 +31,11 @@ pub returns-in_default-read_number : goal.returns-in_default-read_number
 returns-in_default-read_number c = sym (whole (goal.at.returns-in_default-read_number c).After-read_number-2 ∙ ap positive c.in_default-read_number.is)
 
 pub returns-then-size-gt9223372036854775807 : goal.returns-then-size-gt9223372036854775807
-returns-then-size-gt9223372036854775807 c = 
+returns-then-size-gt9223372036854775807 c =
     sym (whole (goal.at.returns-then-size-gt9223372036854775807 c).After-read_number-2 ∙ ap positive c.in-Value-read_number.is ∙ positive_large c.in-Value-read_number.size c.if-size-gt9223372036854775807.true)
 
 pub returns : goal.returns
-returns c = 
+returns c =
     sym (whole (goal.at.returns c).After-read_number-2 ∙ ap positive c.in-Value-read_number.is ∙ positive_fits c.in-Value-read_number.size c.if-size-gt9223372036854775807.false)
 
 pub returns-then-text-eq0 : goal.returns-then-text-eq0

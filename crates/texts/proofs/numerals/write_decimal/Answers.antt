@@ -1,5 +1,4 @@
 use mathlib.Core.Path.{◌≡◌, sym, ◌∙◌}
-use borrow.Author.Rules.{rules}
 use lib.ListN.{take}
 use Rattle.texts.specs.Writing.{decimal}
 use Rattle.texts.proofs.Digits.{decimal_digits}

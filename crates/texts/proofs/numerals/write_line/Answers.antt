@@ -3,7 +3,6 @@ use mathlib.Core.List.{List, [], ◌∷◌, ◌++◌}
 use Prim.Native.Nat.{ℕ, ◌+◌, ◌≤◌}
 use native.Mathlib.Omega.{arith}
 use lib.ListN.{length, take, length-append}
-use borrow.Author.Rules.{rules}
 use Rattle.texts.specs.Writing.{decimal, text_line}
 use Rattle.texts.specs.Rooms.{Room}
 use Rattle.texts.proofs.Append.{two, at_start, start_is, writes, put, put_none}

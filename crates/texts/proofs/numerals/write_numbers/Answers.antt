@@ -3,8 +3,7 @@ use mathlib.Core.List.{List}
 use Prim.Native.Nat.{ℕ, ◌-◌}
 use native.Mathlib.Omega.{arith}
 use lib.ListN.{length}
-use borrow.Author.Rules.{rules}
-use borrow.Author.Tests.{leb-true, leb-false, not-true, not-false}
+use borrow.Author.Tests.{leb-true, leb-false}
 use Rattle.texts.specs.Writing.{commas}
 use Rattle.texts.specs.Rooms.{Room}
 use Rattle.texts.proofs.Append.{put, put_none}
@@ -25,7 +24,7 @@ module _ (c : After-numbers_fit) where
   left = length c.args.out.now - c.args.at
 
 pub returns-then-not-numbers_fit : goal.returns-then-not-numbers_fit
-returns-then-not-numbers_fit c = 
+returns-then-not-numbers_fit c =
     let test = (goal.at.returns-then-not-numbers_fit c).After-numbers_fit in
     let more = leb-false (length (text test)) (left test) (sym c.numbers_fit.ensures ∙ c.if-not-numbers_fit.true) in
     let p = put_none (text test) c.args.at c.args.out.now (omega arith) in

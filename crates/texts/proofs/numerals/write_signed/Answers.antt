@@ -6,7 +6,6 @@ use lib.IntN.{pos, nat_abs}
 use lib.ListN.{length, take}
 use mir.Syntax.{w64}
 use mir.Facts.{to_z-of_z}
-use borrow.Author.Rules.{rules}
 use Rattle.feefrac.proofs.Signed.{Le, Lt, less, not_less, zero_fits, cast, more_fits, below_fits, below_cast, below_more, below_size}
 use Rattle.texts.specs.Writing.{decimal}
 use Rattle.texts.proofs.Append.{two, at_start, start_is, writes}
