@@ -42,23 +42,32 @@ fn of_repository() -> PathBuf {
     let package = PathBuf::from(env::var_os("CARGO_MANIFEST_DIR").expect("cargo sets it"));
     let root = package.join("../..").canonicalize().expect("it is there");
     // cargo asks again where a crate changed, so that no older archive is linked
-    println!("cargo:rerun-if-changed={}", root.join("crates").display());
+    for part in sources(&root) {
+        println!("cargo:rerun-if-changed={}", part.display());
+    }
     println!(
         "cargo:rerun-if-changed={}",
         root.join("crates.txt").display()
     );
-    make_archive(&root);
-    root.join("target/staticlib")
+    let library = root.join("crates/yaghrudil");
+    make_archive(&library);
+    library.join("out")
 }
 
-fn make_archive(root: &Path) {
-    let made = Command::new("rt")
-        .args(["staticlib", "yaghrudil"])
-        .current_dir(root)
-        .status();
+/// What the archive is made from: the prover's own work lies beside it, in each crate's out/.
+fn sources(root: &Path) -> Vec<PathBuf> {
+    let crates = std::fs::read_dir(root.join("crates")).expect("it is there");
+    let parts = crates
+        .flatten()
+        .flat_map(|it| ["src", "specs", "proofs"].map(|part| it.path().join(part)));
+    parts.filter(|part| part.is_dir()).collect()
+}
+
+fn make_archive(library: &Path) {
+    let made = Command::new("rt").arg("lib").current_dir(library).status();
     match made {
         Ok(status) if status.success() => {}
-        Ok(status) => stop(&format!("`rt staticlib yaghrudil` failed: {status}")),
+        Ok(status) => stop(&format!("`rt lib` failed: {status}")),
         Err(error) => stop(&format!(
             "`rt`, which makes {ARCHIVE}, does not start ({error}): \
              put it on the PATH, or set YAGHRUDIL_LIB to a folder with the archive"
