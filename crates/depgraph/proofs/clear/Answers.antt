@@ -5,10 +5,10 @@ use Rattle.depgraph.proofs.clear.Goals as goal
 
 pub loop-i-preserved : goal.loop-i-preserved
 loop-i-preserved c = let small = c.loop-i.invariant.1.same in (
-      search rules,
-      clear_turn c.loop-i.i c.empty.result (omega (arith, c.loop-i-test.true, small)) c.empty.ensures
-          c.put.ensures c.loop-i.invariant.1,
-    )
+  search rules,
+  clear_turn c.loop-i.i c.empty.result (omega (arith, c.loop-i-test.true, small)) c.empty.ensures
+      c.put.ensures c.loop-i.invariant.1,
+)
 
 pub loop-i-init : goal.loop-i-init
 loop-i-init c = (search rules, clear_start _)
