@@ -4,7 +4,7 @@
 #include <stdlib.h>
 #include <string.h>
 #include <time.h>
-#include "/work/h/tmpl/bindings/yaghrudil.h"
+#include "../bindings/yaghrudil.h"
 typedef yaghrudil_reply (*T)(const uint64_t*,size_t,const int64_t*,size_t,const uint8_t*,size_t,yaghrudil_terms,size_t*,size_t);
 typedef yaghrudil_totals (*TT)(const uint64_t*,size_t);
 typedef uint64_t (*M)(uint64_t*,size_t,yaghrudil_limits);
