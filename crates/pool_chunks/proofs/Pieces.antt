@@ -3,7 +3,7 @@
 use Prim.Native.Nat.{ℕ, zero, suc, ◌≤◌, ◌<◌, suc-le-suc}
 use native.Mathlib.Nat.{not-suc-le-zero, le_of_suc-le-suc}
 use native.Mathlib.Omega.{arith}
-use mathlib.Core.Path.{◌≡◌, refl, sym, ap, ap₂, ◌∙◌}
+use mathlib.Core.Path.{◌≡◌, refl, sym, ap, ap₂, ◌∙◌, subst}
 use mathlib.Core.Bool.{Bool, true, not, ◌&&◌}
 use mathlib.Core.Logic.{⊎_elim}
 use mathlib.Core.List.{List, [], ◌∷◌, ◌++◌, map, map-append, append-nil, append_assoc, flatten}
@@ -70,7 +70,7 @@ unfolding elem any_of
 map_in f [] i e = clash e refl
 map_in f (x ∷ xs) i e =
     ⊎_elim
-    (λ z. rw z (elem_head (f x) (map f xs)))
+    (λ z. subst (λ (j : ℕ). elem (f j) (map f (x ∷ xs)) ≡ true) (sym z) (elem_head (f x) (map f xs)))
     (λ m. elem_tail (f i) (f x) (map f xs) (map_in f xs i m))
     (in_cons i x xs e)
 

@@ -21,207 +21,154 @@ use Rattle.pool_check.specs.Linked.{Linked}
 use Rattle.pool_check.proofs.Parts.{stands_linked, linked_both}
 use Rattle.pool_members.proofs.Laid.{six_wide, stands_short, stands_rest, slots_in, order_fits, order_is}
 use Rattle.pool_members.proofs.lay_out.Goals as goal
-use Rattle.pool_members.proofs.lay_out.Goals.{After-are_wide, After-lay_by_txid, After-rank_all, After-slice_known-17-1, After-sort_linked-sorted, After-unpack_all, Else-not-sorted, Start}
+use Rattle.pool_members.proofs.lay_out.Goals.{After-sort_linked-sorted}
 
 -- ---- the rooms
 
-abbrev six : Start → List ℕ
-six s =
-    length s.args.members.now
-    ∷ length s.args.bounds.now
-    ∷ length s.args.firsts.now
-    ∷ length s.args.order.now
-    ∷ length s.args.ranks.now
-    ∷ length s.args.places.now
-    ∷ []
-
-abbrev two : Start → List ℕ
-two s = length s.args.ups.now ∷ length s.args.spare.now ∷ []
-
-abbrev slots : Start → ℕ
-slots s = slot_count (pool_of s.args.table.now)
-
-abbrev start : After-are_wide → Start
-start c = c.before.before.before.before.before.before.before.before.before.before.before
-
-wide : (c : After-are_wide) → c.are_wide.result ≡ roomy (slots (start c)) (six (start c))
-wide c = c.are_wide.ensures ∙ ap (λ (n : ℕ). roomy n (six (start c))) c.slots-slots.ensures
-
 pub returns-then-not-are_wide : goal.returns-then-not-are_wide
-returns-then-not-are_wide c = let test = c.before in
-    let st = start test in (
-      stands_short st.args.table.now (six st) (two st) (sym (wide test) ∙ not-true test.are_wide.result c.if-not-are_wide.true),
-      λ e. absurd (false≢true e),
-    )
+returns-then-not-are_wide c = let args = c.args in
+    let six =
+    length args.members.now
+    ∷ length args.bounds.now
+    ∷ length args.firsts.now
+    ∷ length args.order.now
+    ∷ length args.ranks.now
+    ∷ length args.places.now
+    ∷ [] in
+    let wide = c.are_wide.ensures ∙ ap (λ (n : ℕ). roomy n six) c.slots-slots.ensures in record {
+      stands_value =
+          stands_short args.table.now six (length args.ups.now ∷ length args.spare.now ∷ []) (sym wide ∙ c.if-not-are_wide.true);
+      laid_out = λ e. absurd (false≢true e);
+    }
 
 -- ---- whether the table stands
 
-abbrev begun : After-sort_linked-sorted → Start
-begun c = start c.before.before.before.before
+module _ (c : After-sort_linked-sorted) where
+  abbrev six : List ℕ
+  six =
+      length c.args.members.now
+      ∷ length c.args.bounds.now
+      ∷ length c.args.firsts.now
+      ∷ length c.args.order.now
+      ∷ length c.args.ranks.now
+      ∷ length c.args.places.now
+      ∷ []
 
-six_are : (c : After-sort_linked-sorted) → roomy (slots (begun c)) (six (begun c)) ≡ true
-six_are c =
-    let else = c.before.before.before in
-    sym (wide else.before) ∙ not-false else.are_wide.result else.if-not-are_wide.false
+  abbrev two : List ℕ
+  two = length c.args.ups.now ∷ length c.args.spare.now ∷ []
 
-stood : (c : After-sort_linked-sorted)
-    → stands_in (begun c).args.table.now (six (begun c) ++ two (begun c))
-    ≡ (c.sort_linked-sorted.result.stands && clusters_within (pool_of (begun c).args.table.now))
-stood c =
-    let t = (begun c).args.table.now in
-    stands_rest t (six (begun c)) (two (begun c)) (six_are c)
-    ∙ stands_linked t (two (begun c))
-    ∙ ap (λ (b : Bool). b && clusters_within (pool_of t)) (sym c.sort_linked-sorted.ensures.stands_value)
+  abbrev slots : ℕ
+  slots = slot_count (pool_of c.args.table.now)
+
+  six_are : roomy slots six ≡ true
+  six_are = sym (c.are_wide.ensures ∙ ap (λ (n : ℕ). roomy n six) c.slots-slots.ensures) ∙ c.if-not-are_wide.false
+
+  stood : stands_in c.args.table.now (six ++ two) ≡ (c.sort_linked-sorted.result.stands && clusters_within (pool_of c.args.table.now))
+  stood =
+      let t = c.args.table.now in
+      stands_rest t six two six_are
+      ∙ stands_linked t two
+      ∙ ap (λ (b : Bool). b && clusters_within (pool_of t)) (sym c.sort_linked-sorted.ensures.stands_value)
+
+  -- a table that stands
+  module _ (stands : c.sort_linked-sorted.result.stands ≡ true) where
+    both : (roomy slots two ≡ true) × Linked c.args.table.now
+    both = linked_both c.args.table.now two (sym c.sort_linked-sorted.ensures.stands_value ∙ stands)
+
+    linked : Linked c.args.table.now
+    linked = both.1
+
+    packed : Standing (pool_of c.args.table.now) c.sort_linked-sorted.result.count c.args.ups.now c.sort_linked-sorted.new.keys
+    packed = c.sort_linked-sorted.ensures.standing stands
+
+    rooms : (slots < length c.args.members.now)
+        × (slots < length c.args.bounds.now)
+        × (slots < length c.args.firsts.now)
+        × (slots < length c.args.order.now)
+        × (slots < length c.args.ranks.now)
+        × (slots < length c.args.places.now)
+    rooms = six_wide six_are
+
+    in_ups : slots < length c.sort_linked-sorted.new.keys
+    in_ups = omega (arith, (roomy_both _ both.0).0, c.sort_linked-sorted.auto.keys)
+
+    few : c.sort_linked-sorted.result.count ≤ slots
+    few = order_fits c.args.table.now linked packed
 
 pub returns-then-not-sorted : goal.returns-then-not-sorted
-returns-then-not-sorted c = let sort = c.before.before.before.before.before.before in
-    let p = pool_of (begun sort).args.table.now in (
-      sym (stood sort ∙ ap (λ (b : Bool). b && clusters_within p) (not-true sort.sort_linked-sorted.result.stands c.if-not-sorted.true)),
-      λ e. absurd (false≢true e),
-    )
-
--- ---- a table that stands
-
-abbrev sortAt : Else-not-sorted → After-sort_linked-sorted
-sortAt c = c.before.before.before.before.before.before
-
-module _ (c : Else-not-sorted) where
-  abbrev s : Start
-  s = begun (sortAt c)
-
-  stands : (sortAt c).sort_linked-sorted.result.stands ≡ true
-  stands = not-false (sortAt c).sort_linked-sorted.result.stands c.if-not-sorted.false
-
-  both : (roomy (slots s) (two s) ≡ true) × Linked s.args.table.now
-  both = linked_both s.args.table.now (two s) (sym (sortAt c).sort_linked-sorted.ensures.stands_value ∙ stands)
-
-  linked : Linked s.args.table.now
-  linked = both.1
-
-  packed : Standing (pool_of s.args.table.now) (sortAt c).sort_linked-sorted.result.count s.args.ups.now (sortAt c).sort_linked-sorted.new.1.0
-  packed = (sortAt c).sort_linked-sorted.ensures.standing stands
-
-  rooms : (slots s < length s.args.members.now)
-      × (slots s < length s.args.bounds.now)
-      × (slots s < length s.args.firsts.now)
-      × (slots s < length s.args.order.now)
-      × (slots s < length s.args.ranks.now)
-      × (slots s < length s.args.places.now)
-  rooms = six_wide (six_are (sortAt c))
-
-  in_ups : slots s < length (sortAt c).sort_linked-sorted.new.1.0
-  in_ups = omega (arith, (roomy_both _ both.0).0, (sortAt c).sort_linked-sorted.auto.1.0)
-
-  few : (sortAt c).sort_linked-sorted.result.count ≤ slots s
-  few = order_fits s.args.table.now linked packed
-
-pub unpack_all-requires : goal.unpack_all-requires
-unpack_all-requires c = let else = c.before.before in simp length-take (omega (arith, few else, (rooms else).3))
+returns-then-not-sorted c = let p = pool_of c.args.table.now in record {
+      stands_value =
+          sym (stood (goal.at.returns-then-not-sorted c).After-sort_linked-sorted
+          ∙ ap (λ (b : Bool). b && clusters_within p) (not-true c.sort_linked-sorted.result.stands c.if-not-sorted.true));
+      laid_out = λ e. absurd (false≢true e);
+    }
 
 -- ---- the slots by txid
 
-abbrev else_of : After-unpack_all → Else-not-sorted
-else_of c = c.before.before.before
-
-module _ (c : After-unpack_all) where
-  abbrev n : ℕ
-  n = (sortAt (else_of c)).sort_linked-sorted.result.count
-
-  sorted : take n c.unpack_all.new.1.0 ≡ slots_by_txid (pool_of (s (else_of c)).args.table.now)
-  sorted =
-      order_is (s (else_of c)).args.table.now (linked (else_of c)) (packed (else_of c)) (s (else_of c)).args.order.now c.unpack_all.ensures
-
-  within : n ≤ length c.unpack_all.new.1.0
-  within = omega (arith, few (else_of c), (rooms (else_of c)).3, c.unpack_all.auto.1.0)
+pub unpack_all-requires : goal.unpack_all-requires
+unpack_all-requires c = let d = (goal.at.unpack_all-requires c).After-sort_linked-sorted in
+    let st = not-false c.sort_linked-sorted.result.stands c.if-not-sorted.false in
+    simp length-take (omega (arith, few d st, (rooms d st).3))
 
 pub rank_all-requires : goal.rank_all-requires
-rank_all-requires c = let all = c.before.before.before.before in
-    let else = else_of all in
-    let t = (s else).args.table.now in (
-      ap distinct (sorted all) ∙ slots_once (pool_of t),
-      λ k l.
-          subst (λ (xs : List ℕ). get_or xs k 0 < length (s else).args.ranks.now) (sym (sorted all))
-          (omega (arith, (rooms else).4, slots_in t (linked else) k (subst (λ (xs : List ℕ). k < length xs) (sorted all) l))),
-    )
+rank_all-requires c = let d = (goal.at.rank_all-requires c).After-sort_linked-sorted in
+    let st = not-false c.sort_linked-sorted.result.stands c.if-not-sorted.false in
+    let t = c.args.table.now in
+    let sorted = order_is t (linked d st) (packed d st) c.args.order.now c.unpack_all.ensures in record {
+      slots_value = ap distinct sorted ∙ slots_once (pool_of t);
+      by_index =
+          λ k l.
+          subst (λ (xs : List ℕ). get_or xs k 0 < length c.args.ranks.now) (sym sorted)
+          (omega (arith, (rooms d st).4, slots_in t (linked d st) k (subst (λ (xs : List ℕ). k < length xs) sorted l)));
+    }
 
 -- ---- the clusters
 
 pub lay_by_txid-requires : goal.lay_by_txid-requires
-lay_by_txid-requires c = let rank = c.before.before.before.before.before.before.before.before.before in
-    let all = rank.before.before.before.before.before in
-    let else = else_of all in
-    let bounds = (s else).args.bounds.now in record {
-      linked = linked else;
-      order_value = sorted all;
-      table_in_bounds = ((omega (arith, (rooms else).4, rank.rank_all.auto.1.0)), rank.rank_all.ensures.here);
+lay_by_txid-requires c = let d = (goal.at.lay_by_txid-requires c).After-sort_linked-sorted in
+    let st = not-false c.sort_linked-sorted.result.stands c.if-not-sorted.false in
+    let t = c.args.table.now in
+    let wide = rooms d st in
+    let bounds = c.args.bounds.now in record {
+      linked = linked d st;
+      order_value = order_is t (linked d st) (packed d st) c.args.order.now c.unpack_all.ensures;
+      table_in_bounds = ((omega (arith, wide.4, c.rank_all.auto.ranks)), c.rank_all.ensures.here);
       rooms = record {
-        in_members = (rooms else).0;
-        in_bounds = omega (arith, (rooms else).1, length-set bounds 0 0);
-        in-firsts = (rooms else).2;
-        in_ups = in_ups else;
-        in-places = (rooms else).5;
-        start = get_or-set_same bounds 0 0 0 (omega (arith, (rooms else).1));
+        in_members = wide.0;
+        in_bounds = omega (arith, wide.1, length-set bounds 0 0);
+        in_firsts = wide.2;
+        in_ups = in_ups d st;
+        in_places = wide.5;
+        start = get_or-set_same bounds 0 0 0 (omega (arith, wide.1));
       };
     }
 
-abbrev rank_at : After-lay_by_txid → After-rank_all
-rank_at c = c.before.before.before.before.before.before.before.before.before.before
-
-abbrev elseAt : After-lay_by_txid → Else-not-sorted
-elseAt c = else_of (rank_at c).before.before.before.before.before
-
-abbrev layAt : After-slice_known-17-1 → After-lay_by_txid
-layAt c = c.before.before.before.before.before.before.before.before.before.before
-
 pub returns : goal.returns
-returns c = let lay = layAt c in
-    let else = elseAt lay in
-    let p = pool_of (s else).args.table.now in record {
-      stands_value = lay.lay-by-txid.ensures.0 ∙ sym (stood (sortAt else) ∙ ap (λ (b : Bool). b && clusters_within p) (stands else));
-      laid_out = lay.lay-by-txid.ensures.1;
+returns c = let d = (goal.at.returns c).After-sort_linked-sorted in
+    let st = not-false c.sort_linked-sorted.result.stands c.if-not-sorted.false in
+    let p = pool_of c.args.table.now in record {
+      stands_value = c.lay_by_txid.ensures.stands_value ∙ sym (stood d ∙ ap (λ (b : Bool). b && clusters_within p) st);
+      laid_out = c.lay_by_txid.ensures.laid_out;
     }
 
 pub slice_bounds-unpack_all-end : goal.slice_bounds-unpack_all-end
-slice_bounds-unpack_all-end c = omega (arith, few c, in_ups c)
-
-pub slice_bounds-unpack_all-end-2 : goal.slice_bounds-unpack_all-end-2
-slice_bounds-unpack_all-end-2 c = sym (length-take-le _ _ (omega (arith, few c.before, in_ups c.before)))
+slice_bounds-unpack_all-end c = let d = (goal.at.slice_bounds-unpack_all-end c).After-sort_linked-sorted in
+    let st = not-false c.sort_linked-sorted.result.stands c.if-not-sorted.false in
+    omega (arith, few d st, in_ups d st)
 
 pub slice_bounds-rank_all-end : goal.slice_bounds-rank_all-end
-slice_bounds-rank_all-end c = within c.before.before
-
-pub slice_bounds-rank_all-end-2 : goal.slice_bounds-rank_all-end-2
-slice_bounds-rank_all-end-2 c = sym (length-take-le _ _ (within c.before.before.before))
+slice_bounds-rank_all-end c = let d = (goal.at.slice_bounds-rank_all-end c).After-sort_linked-sorted in
+    let st = not-false c.sort_linked-sorted.result.stands c.if-not-sorted.false in
+    omega (arith, few d st, (rooms d st).3, c.unpack_all.auto.order)
 
 pub bounds-bounds-0 : goal.bounds-bounds-0
-bounds-bounds-0 c = omega (arith, (rooms c.before.before.before.before.before.before.before.before.before.before).1)
+bounds-bounds-0 c = let d = (goal.at.bounds-bounds-0 c).After-sort_linked-sorted in
+    omega (arith, (rooms d (not-false c.sort_linked-sorted.result.stands c.if-not-sorted.false)).1)
 
 pub slice_bounds-lay_by_txid-end : goal.slice_bounds-lay_by_txid-end
-slice_bounds-lay_by_txid-end c = within c.before.before.before.before.before.before.before
-
-pub slice_bounds-lay_by_txid-end-2 : goal.slice_bounds-lay_by_txid-end-2
-slice_bounds-lay_by_txid-end-2 c = sym (length-take-le _ _ (within c.before.before.before.before.before.before.before.before))
-
-pub shape_of-members : goal.shape_of-members
-shape_of-members c = (layAt c).lay_by_txid.auto.1.1.1.1.0
+slice_bounds-lay_by_txid-end c = let d = (goal.at.slice_bounds-lay_by_txid-end c).After-sort_linked-sorted in
+    let st = not-false c.sort_linked-sorted.result.stands c.if-not-sorted.false in
+    omega (arith, few d st, (rooms d st).3, c.unpack_all.auto.order)
 
 pub shape_of-bounds : goal.shape_of-bounds
-shape_of-bounds c = (layAt c).lay_by_txid.auto.1.1.1.1.1.0 ∙ length-set (s (elseAt (layAt c))).args.bounds.now 0 0
-
-pub shape_of-firsts : goal.shape_of-firsts
-shape_of-firsts c = (layAt c).lay_by_txid.auto.1.1.1.1.1.1.0
-
-pub shape_of-order : goal.shape_of-order
-shape_of-order c = (rank_at (layAt c)).unpack_all.auto.1.0
-
-pub shape_of-ranks : goal.shape_of-ranks
-shape_of-ranks c = (rank_at (layAt c)).rank_all.auto.1.0
-
-pub shape_of-places : goal.shape_of-places
-shape_of-places c = (layAt c).lay_by_txid.auto.1.1.1.0
-
-pub shape_of-ups : goal.shape_of-ups
-shape_of-ups c = (layAt c).lay_by_txid.auto.1.1.1.1.1.1.1.0 ∙ (sortAt (elseAt (layAt c))).sort_linked-sorted.auto.1.0
-
-pub shape_of-spare : goal.shape_of-spare
-shape_of-spare c = (sortAt (elseAt (layAt c))).sort_linked-sorted.auto.1.1.0
+shape_of-bounds c = c.lay_by_txid.auto.bounds ∙ length-set c.args.bounds.now 0 0

@@ -12,107 +12,89 @@ use Rattle.pool_chunks.specs.Steps.{Cuttable}
 use Rattle.pool_chunks.proofs.OneCluster.{front_is, alone_written, answered, Ordered, ordered, ordered_long, ordered_many, ordered_few}
 use Rattle.pool_chunks.proofs.OneCluster.{ordered_below, ordered_fits, ordered_whole, ordered_written}
 use Rattle.pool_chunks.proofs.cut.cut_cluster.Goals as goal
-use Rattle.pool_chunks.proofs.cut.cut_cluster.Goals.{After-gather_parents, After-gather_rates, After-order_cluster-k, After-put_ends, After-put_slots, Start}
+use Rattle.pool_chunks.proofs.cut.cut_cluster.Goals.{After-gather_parents, After-gather_rates, After-order_cluster-k}
 
 -- ---- what was gathered
 
-abbrev start_of : After-gather_rates → Start
-start_of g = g.before.before.before.before.before.before.before.before.before.before
+module _ (c : After-gather_rates) where
+  abbrev membersIn : List ℕ
+  membersIn = c.args.members.now
 
-abbrev membersIn : After-gather_rates → List ℕ
-membersIn g = (start_of g).args.members.now
+  abbrev poolIn : Pool
+  poolIn = pool_of c.args.table.now
 
-abbrev poolIn : After-gather_rates → Pool
-poolIn g = pool_of (start_of g).args.table.now
+  abbrev deltasIn : List ℤ
+  deltasIn = c.args.deltas.now
 
-abbrev deltasIn : After-gather_rates → List ℤ
-deltasIn g = (start_of g).args.deltas.now
+  -- the starts of both rooms, as they are lent
+  abbrev feesLent : List ℤ
+  feesLent = take (length c.args.members.now) c.gather_rates.new.fees
 
-abbrev upsIn : After-gather_rates → List ℕ
-upsIn g = (start_of g).args.ups.now
+  abbrev sizesLent : List ℕ
+  sizesLent = take (length c.args.members.now) c.gather_rates.new.sizes
 
--- the starts of both rooms, as they are lent
-abbrev feesLent : After-gather_rates → List ℤ
-feesLent g = take (length (membersIn g)) g.gather_rates.last.1.1.1.0
+  fees_are : feesLent ≡ fees_of poolIn deltasIn membersIn
+  fees_are = front_is _ _ c.gather_rates.ensures.fees_after (length-map membersIn _)
 
-abbrev sizesLent : After-gather_rates → List ℕ
-sizesLent g = take (length (membersIn g)) g.gather_rates.last.1.1.1.1.0
+  fees_long : length feesLent ≡ length membersIn
+  fees_long = ap length fees_are ∙ length-map membersIn _
 
-module _ (g : After-gather_rates) where
-  pre : Cuttable (poolIn g) (deltasIn g) (membersIn g) (upsIn g) (start_of g).args.from
-  pre = (start_of g).requires.cuttable
+  fees_wide : length membersIn ≤ length c.gather_rates.new.fees
+  fees_wide = omega (arith, c.gather_rates.auto.fees, c.requires.cuttable.few)
 
-  fees_are : feesLent g ≡ fees_of (poolIn g) (deltasIn g) (membersIn g)
-  fees_are = front_is _ _ g.gather_rates.ensures.fees_after (length-map (membersIn g) _)
+  sizes_are : sizesLent ≡ sizes_of poolIn membersIn
+  sizes_are = front_is _ _ c.gather_rates.ensures.sizes_after (length-map membersIn _)
 
-  fees_long : length (feesLent g) ≡ length (membersIn g)
-  fees_long = ap length fees_are ∙ length-map (membersIn g) _
+  sizes_long : length sizesLent ≡ length membersIn
+  sizes_long = ap length sizes_are ∙ length-map membersIn _
 
-  fees_wide : length (membersIn g) ≤ length g.gather_rates.last.1.1.1.0
-  fees_wide = omega (arith, g.gather_rates.kept.1.1.1.0, pre.few)
+  sizes_wide : length membersIn ≤ length c.gather_rates.new.sizes
+  sizes_wide = omega (arith, c.gather_rates.auto.sizes, c.requires.cuttable.few)
 
-  sizes_are : sizesLent g ≡ sizes_of (poolIn g) (membersIn g)
-  sizes_are = front_is _ _ g.gather_rates.ensures.sizes_after (length-map (membersIn g) _)
+module _ (c : After-gather_parents) where
+  abbrev upsLent : List ℕ
+  upsLent = take (length c.args.members.now) c.gather_parents.new.parents
 
-  sizes_long : length (sizesLent g) ≡ length (membersIn g)
-  sizes_long = ap length sizes_are ∙ length-map (membersIn g) _
+  ups_are : upsLent ≡ map (λ s. get_or c.args.ups.now s 0) c.args.members.now
+  ups_are = front_is _ _ c.gather_parents.ensures (length-map c.args.members.now _)
 
-  sizes_wide : length (membersIn g) ≤ length g.gather_rates.last.1.1.1.1.0
-  sizes_wide = omega (arith, g.gather_rates.kept.1.1.1.1.0, pre.few)
-
-abbrev gathered : After-gather_parents → After-gather_rates
-gathered q = q.before.before.before.before
-
-abbrev upsLent : After-gather_parents → List ℕ
-upsLent q = take (length (membersIn (gathered q))) q.gather_parents.new.1.1.0
-
-module _ (q : After-gather_parents) where
-  ups_are : upsLent q ≡ map (λ s. get_or (upsIn (gathered q)) s 0) (membersIn (gathered q))
-  ups_are = front_is _ _ q.gather_parents.ensures (length-map (membersIn (gathered q)) _)
-
-  ups_long : length (upsLent q) ≡ length (membersIn (gathered q))
-  ups_long = ap length ups_are ∙ length-map (membersIn (gathered q)) _
+  ups_long : length upsLent ≡ length c.args.members.now
+  ups_long = ap length ups_are ∙ length-map c.args.members.now _
 
 -- ---- what was ordered
 
-abbrev upsOf : After-order_cluster-k → After-gather_parents
-upsOf o = o.before.before.before.before.before.before.before
+module _ (c : After-order_cluster-k) where
+  abbrev orderLent : List ℕ
+  orderLent = take (length c.args.members.now) c.order_cluster-k.new.order
 
-abbrev ratesOf : After-order_cluster-k → After-gather_rates
-ratesOf o = gathered (upsOf o)
+  abbrev lensLent : List ℕ
+  lensLent = take c.order_cluster-k.result c.order_cluster-k.new.lens
 
-abbrev orderLent : After-order_cluster-k → List ℕ
-orderLent o = take (length (membersIn (ratesOf o))) o.order_cluster-k.new.1.1.1.0
-
-abbrev lensLent : After-order_cluster-k → List ℕ
-lensLent o = take o.order_cluster-k.result o.order_cluster-k.new.1.1.1.1.0
-
-module _ (o : After-order_cluster-k) where
-  ready : Ordered (pre (ratesOf o)) (feesLent (ratesOf o)) (sizesLent (ratesOf o)) (orderLent o) (lensLent o) o.order_cluster-k.result
+  -- the cluster, gathered as it was lent, came back ordered
+  ready : Ordered c.requires.cuttable (take (length c.args.members.now) c.gather_rates.new.fees)
+      (take (length c.args.members.now) c.gather_rates.new.sizes) orderLent lensLent c.order_cluster-k.result
   ready =
-      let told = o.order_cluster-k.ensures in
-      ordered (pre (ratesOf o)) _ _ _ _ _ (fees_are (ratesOf o)) (sizes_are (ratesOf o)) (ups_are (upsOf o)) told.value told.order_after told.lens_after
+      let told = c.order_cluster-k.ensures in
+      ordered c.requires.cuttable _ _ _ _ _
+      (front_is _ _ c.gather_rates.ensures.fees_after (length-map c.args.members.now _))
+      (front_is _ _ c.gather_rates.ensures.sizes_after (length-map c.args.members.now _))
+      (front_is _ _ c.gather_parents.ensures (length-map c.args.members.now _))
+      told.value told.order_after told.lens_after
 
-  order_long : length (orderLent o) ≡ length (membersIn (ratesOf o))
-  order_long = ordered_long (pre (ratesOf o)) ready
+  order_long : length orderLent ≡ length c.args.members.now
+  order_long = ordered_long c.requires.cuttable ready
 
-  order_wide : length (membersIn (ratesOf o)) ≤ length o.order_cluster-k.last.1.1.1.0
-  order_wide = omega (arith, o.order_cluster-k.kept.1.1.1.0, (pre (ratesOf o)).few)
+  order_wide : length c.args.members.now ≤ length c.order_cluster-k.new.order
+  order_wide = omega (arith, c.order_cluster-k.auto.order, c.requires.cuttable.few)
 
-  lens_long : length (lensLent o) ≡ o.order_cluster-k.result
-  lens_long = ordered_many (pre (ratesOf o)) ready
+  lens_long : length lensLent ≡ c.order_cluster-k.result
+  lens_long = ordered_many c.requires.cuttable ready
 
-  lens_few : o.order_cluster-k.result ≤ length (membersIn (ratesOf o))
-  lens_few = ordered_few (pre (ratesOf o)) ready
+  lens_few : c.order_cluster-k.result ≤ length c.args.members.now
+  lens_few = ordered_few c.requires.cuttable ready
 
-  lens_wide : o.order_cluster-k.result ≤ length o.order_cluster-k.last.1.1.1.1.0
-  lens_wide = omega (arith, o.order_cluster-k.kept.1.1.1.1.0, (pre (ratesOf o)).few, lens_few)
-
-abbrev orderedBy : After-put_slots → After-order_cluster-k
-orderedBy s = s.before.before.before.before.before
-
-abbrev orderedFor : After-put_ends → After-order_cluster-k
-orderedFor e = orderedBy e.before.before.before.before.before
+  lens_wide : c.order_cluster-k.result ≤ length c.order_cluster-k.new.lens
+  lens_wide = omega (arith, c.order_cluster-k.auto.lens, c.requires.cuttable.few, lens_few)
 
 -- ---- the needs
 
@@ -120,85 +102,95 @@ pub slot_rate-requires : goal.slot_rate-requires
 slot_rate-requires c = c.requires.cuttable.pay 0 (omega (arith, c.if-n-eq1.true))
 
 pub returns-then-n-eq1 : goal.returns-then-n-eq1
-returns-then-n-eq1 c = let rate = c.before.before.before.before.before.before in
-    let put = c.put.ensures in
-    let start = rate.before.before.before.before.before.before.before.before.before in
-    let wide = start.requires.1 in
-    let one = rate.if-n-eq1.true in
-    alone_written start.requires.cuttable one _ _ _ _ _
-    (omega (arith, wide.0.0)) (omega (arith, wide.0.1)) (omega (arith, wide.1.0)) (omega (arith, wide.1.1))
-    rate.slot_rate.ensures put.fees_after put.sizes_after
-
-pub slice_bounds-order_cluster-end-2 : goal.slice_bounds-order_cluster-end-2
-slice_bounds-order_cluster-end-2 c = sym (sizes_long c.before.before.before.before.before.before.before)
+returns-then-n-eq1 c = let put = c.put.ensures in
+    let wide = c.requires.members_in_bounds in
+    let wide_rates = c.requires.members_in_bounds_2 in
+    let one = c.if-n-eq1.true in
+    let all = alone_written c.requires.cuttable one _ _ _ _ _
+    (omega (arith, wide.0)) (omega (arith, wide.1)) (omega (arith, wide_rates.0)) (omega (arith, wide_rates.1))
+    c.slot_rate.ensures put.fees_after put.sizes_after in record {
+      value = all.0;
+      listed_after = all.1.0;
+      ends_after = all.1.1.0;
+      fees_after = all.1.1.1.0;
+      sizes_after = all.1.1.1.1;
+    }
 
 pub order_cluster-k-requires : goal.order_cluster-k-requires
-order_cluster-k-requires c = let q = c.before.before.before.before.before.before in
-    answered (pre (gathered q)) _ _ _ (fees_are (gathered q)) (sizes_are (gathered q)) (ups_are q) refl refl
+order_cluster-k-requires c = let g = (goal.at.order_cluster-k-requires c).After-gather_rates in
+    answered c.requires.cuttable _ _ _ (fees_are g) (sizes_are g) (ups_are (goal.at.order_cluster-k-requires c).After-gather_parents) refl refl
 
 pub put_slots-requires : goal.put_slots-requires
-put_slots-requires c = let o = c.before.before.before.before in record {
-  by_index = ordered_below (pre (ratesOf o)) (ready o);
-  order_in_bounds = omega (arith, order_long o, (start_of (ratesOf o)).requires.members_in_bounds.0);
+put_slots-requires c = let o = (goal.at.put_slots-requires c).After-order_cluster-k in record {
+  by_index = ordered_below c.requires.cuttable (ready o);
+  order_in_bounds = omega (arith, order_long o, c.requires.members_in_bounds.0);
 }
 
 pub put_ends-requires : goal.put_ends-requires
-put_ends-requires c = let o = orderedBy c.before.before.before.before in record {
-  lens_bound = ordered_fits (pre (ratesOf o)) (ready o);
-  lens_in_bounds = omega (arith, lens_long o, lens_few o, (start_of (ratesOf o)).requires.members_in_bounds.1);
+put_ends-requires c = let o = (goal.at.put_ends-requires c).After-order_cluster-k in record {
+  lens_bound = ordered_fits c.requires.cuttable (ready o);
+  lens_in_bounds = omega (arith, lens_long o, lens_few o, c.requires.members_in_bounds.1);
 }
 
-pub slice_bounds-put_rates-end-2 : goal.slice_bounds-put_rates-end-2
-slice_bounds-put_rates-end-2 c = sym (sizes_long (ratesOf (orderedFor c.before.before.before.before)))
-
-pub slice_bounds-put_rates-end-4 : goal.slice_bounds-put_rates-end-4
-slice_bounds-put_rates-end-4 c = sym (lens_long (orderedFor c.before.before.before.before.before.before))
-
 pub put_rates-requires : goal.put_rates-requires
-put_rates-requires c = let o = orderedFor c.before.before.before.before.before.before.before.before in
-    let wide = (start_of (ratesOf o)).requires.members_in_bounds_2 in record {
-      lens_in_bounds = ordered_whole (pre (ratesOf o)) (ready o);
+put_rates-requires c = let o = (goal.at.put_rates-requires c).After-order_cluster-k in
+    let wide = c.requires.members_in_bounds_2 in record {
+      lens_in_bounds = ordered_whole c.requires.cuttable (ready o);
       lens_in_bounds_2 = omega (arith, lens_long o, lens_few o, wide.0);
       lens_in_bounds_3 = omega (arith, lens_long o, lens_few o, wide.1);
     }
 
 pub returns : goal.returns
-returns c = let rates = c.before.before.before in
-    let ends = rates.before.before.before.before.before.before.before.before.before in
-    let slots = ends.before.before.before.before.before in
-    let o = orderedFor ends in
-    ordered_written (pre (ratesOf o)) (ready o) _ _ _ _ slots.put_slots.ensures ends.put_ends.ensures rates.put_rates.ensures.fees_after
-    rates.put_rates.ensures.sizes_after
+returns c = let o = (goal.at.returns c).After-order_cluster-k in
+    let all = ordered_written c.requires.cuttable (ready o) _ _ _ _ c.put_slots.ensures c.put_ends.ensures c.put_rates.ensures.fees_after
+    c.put_rates.ensures.sizes_after in record {
+      value = all.0;
+      listed_after = all.1.0;
+      ends_after = all.1.1.0;
+      fees_after = all.1.1.1.0;
+      sizes_after = all.1.1.1.1;
+    }
+
+-- ---- the bounds
 
 pub slice_bounds-order_cluster-end : goal.slice_bounds-order_cluster-end
-slice_bounds-order_cluster-end c = sym (fees_long c.before.before.before.before.before.before)
+slice_bounds-order_cluster-end c = sym (fees_long (goal.at.slice_bounds-order_cluster-end c).After-gather_rates)
+
+pub slice_bounds-order_cluster-end-2 : goal.slice_bounds-order_cluster-end-2
+slice_bounds-order_cluster-end-2 c = sym (sizes_long (goal.at.slice_bounds-order_cluster-end-2 c).After-gather_rates)
 
 pub slice_bounds-order_cluster-end-3 : goal.slice_bounds-order_cluster-end-3
-slice_bounds-order_cluster-end-3 c = sym (ups_long c.before.before.before.before)
+slice_bounds-order_cluster-end-3 c = sym (ups_long (goal.at.slice_bounds-order_cluster-end-3 c).After-gather_parents)
 
 pub slice_bounds-put_slots-end : goal.slice_bounds-put_slots-end
-slice_bounds-put_slots-end c = sym (order_long c.before.before.before)
+slice_bounds-put_slots-end c = sym (order_long (goal.at.slice_bounds-put_slots-end c).After-order_cluster-k)
 
 pub slice_bounds-lens-end : goal.slice_bounds-lens-end
-slice_bounds-lens-end c = lens_wide (orderedBy c.before.before)
+slice_bounds-lens-end c = lens_wide (goal.at.slice_bounds-lens-end c).After-order_cluster-k
 
 pub slice_bounds-put_ends-end : goal.slice_bounds-put_ends-end
-slice_bounds-put_ends-end c = sym (lens_long (orderedBy c.before.before.before))
+slice_bounds-put_ends-end c = sym (lens_long (goal.at.slice_bounds-put_ends-end c).After-order_cluster-k)
 
 pub slice_bounds-in_fees-end-2 : goal.slice_bounds-in_fees-end-2
-slice_bounds-in_fees-end-2 c = fees_wide (ratesOf (orderedFor c.before.before))
+slice_bounds-in_fees-end-2 c = fees_wide (goal.at.slice_bounds-in_fees-end-2 c).After-gather_rates
 
 pub slice_bounds-put_rates-end : goal.slice_bounds-put_rates-end
-slice_bounds-put_rates-end c = sym (fees_long (ratesOf (orderedFor c.before.before.before)))
+slice_bounds-put_rates-end c = sym (fees_long (goal.at.slice_bounds-put_rates-end c).After-gather_rates)
 
 pub slice_bounds-in_sizes-end-2 : goal.slice_bounds-in_sizes-end-2
-slice_bounds-in_sizes-end-2 c = sizes_wide (ratesOf (orderedFor c.before.before.before))
+slice_bounds-in_sizes-end-2 c = sizes_wide (goal.at.slice_bounds-in_sizes-end-2 c).After-gather_rates
+
+pub slice_bounds-put_rates-end-2 : goal.slice_bounds-put_rates-end-2
+slice_bounds-put_rates-end-2 c = sym (sizes_long (goal.at.slice_bounds-put_rates-end-2 c).After-gather_rates)
 
 pub slice_bounds-order-end-2 : goal.slice_bounds-order-end-2
-slice_bounds-order-end-2 c = order_wide (orderedFor c.before.before.before.before)
+slice_bounds-order-end-2 c = order_wide (goal.at.slice_bounds-order-end-2 c).After-order_cluster-k
 
 pub slice_bounds-put_rates-end-3 : goal.slice_bounds-put_rates-end-3
-slice_bounds-put_rates-end-3 c = sym (order_long (orderedFor c.before.before.before.before.before))
+slice_bounds-put_rates-end-3 c = sym (order_long (goal.at.slice_bounds-put_rates-end-3 c).After-order_cluster-k)
 
 pub slice_bounds-lens-end-2 : goal.slice_bounds-lens-end-2
-slice_bounds-lens-end-2 c = lens_wide (orderedFor c.before.before.before.before.before)
+slice_bounds-lens-end-2 c = lens_wide (goal.at.slice_bounds-lens-end-2 c).After-order_cluster-k
+
+pub slice_bounds-put_rates-end-4 : goal.slice_bounds-put_rates-end-4
+slice_bounds-put_rates-end-4 c = sym (lens_long (goal.at.slice_bounds-put_rates-end-4 c).After-order_cluster-k)

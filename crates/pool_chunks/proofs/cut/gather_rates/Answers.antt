@@ -10,19 +10,16 @@ use Rattle.pool_chunks.specs.Chunks.{fee_of, size_of}
 use Rattle.pool_chunks.proofs.cut.gather_rates.Goals as goal
 
 pub loop-i-init : goal.loop-i-init
-loop-i-init c = let s = c.before.before.before in (copied_start _ s.requires.members_in_bounds, copied_start _ s.requires.members_in_bounds_2)
+loop-i-init c = (copied_start _ c.requires.members_in_bounds, copied_start _ c.requires.members_in_bounds_2)
 
 pub slot_rate-requires : goal.slot_rate-requires
-slot_rate-requires c = let s = c.before.before.before.before.before.before in s.requires.all_payable _ c.loop-i-test.true
+slot_rate-requires c = c.requires.all_payable _ c.loop-i-test.true
 
 pub loop-i-preserved : goal.loop-i-preserved
-loop-i-preserved c = let put = c.before.before.before in
-    let rate = put.before.before.before in
-    let turn = rate.before.before in
-    let fee = ap (λ (r : FeeFrac). r.fee) rate.slot_rate.ensures in
-    let size = ap (λ (r : FeeFrac). r.size) rate.slot_rate.ensures in (
-      copied_put turn.loop-i.invariant.0 0 turn.loop-i-test.true fee put.put.ensures.fees_after,
-      copied_put turn.loop-i.invariant.1 0 turn.loop-i-test.true size put.put.ensures.sizes_after,
+loop-i-preserved c = let fee = ap (λ (r : FeeFrac). r.fee) c.slot_rate.ensures in
+    let size = ap (λ (r : FeeFrac). r.size) c.slot_rate.ensures in (
+      copied_put c.loop-i.invariant.0 0 c.loop-i-test.true fee c.put.ensures.fees_after,
+      copied_put c.loop-i.invariant.1 0 c.loop-i-test.true size c.put.ensures.sizes_after,
     )
 
 pub shape_of-fees : goal.shape_of-fees

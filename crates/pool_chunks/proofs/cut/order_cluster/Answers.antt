@@ -6,12 +6,9 @@ use borrow.Author.Rules.{rules}
 use Rattle.pool_chunks.proofs.cut.order_cluster.Goals as goal
 
 pub slice_bounds-order_lengths-end-2 : goal.slice_bounds-order_lengths-end-2
-slice_bounds-order_lengths-end-2 c = let o = c.before.before.before in
-    let a = o.requires in
-    sym (length-take-le _ _ (omega (arith, o.linearize.auto.1.1.1.0, a.wide)))
+slice_bounds-order_lengths-end-2 c = sym (length-take-le _ _ (omega (arith, c.linearize.auto.room, c.requires.wide)))
 
 pub returns : goal.returns
-returns c = let l = c.before.before in
-    let o = l.before.before.before.before.before in
-    let told = l.order_lengths.ensures in
-    calls_cut o.requires o.linearize.ensures.room_after told.value told.lens_after
+returns c = let told = c.order_lengths.ensures in
+    let cut = calls_cut c.requires c.linearize.ensures.room_after told.value told.lens_after in
+    record { value = cut.0; order_after = cut.1.0; lens_after = cut.1.1 }
