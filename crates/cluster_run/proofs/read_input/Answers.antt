@@ -21,32 +21,32 @@ nothing_decided = refl
 behind : (c : In-Bytes)
     → (0 < c.in-Bytes.n)
     × (c.loop-len.len + c.in-Bytes.n
-    ≤ length c.read_more-got.new.0)
+    ≤ length c.read_more-got.new.text)
 behind c = gave_bytes _ _ c.read_more-got.ensures c.in-Bytes.is
 
 pub loop-len-init : goal.loop-len-init
 loop-len-init c = (omega arith, (refl, nothing_decided))
 
 pub returns-in-Ended : goal.returns-in-Ended
-returns-in-Ended c = let got = c.before in omega (arith, gave_end _ _ got.read_more-got.ensures got.in-Ended.is)
+returns-in-Ended c = omega (arith, gave_end _ _ c.read_more-got.ensures c.in-Ended.is)
 
 pub returns-in-Failed : goal.returns-in-Failed
-returns-in-Failed c = let got = c.before in omega (arith, gave_failure _ _ got.read_more-got.ensures got.in-Failed.is)
+returns-in-Failed c = omega (arith, gave_failure _ _ c.read_more-got.ensures c.in-Failed.is)
 
 pub overflow_add-len : goal.overflow_add-len
-overflow_add-len c = let h = behind c in search rules
+overflow_add-len c = let h = behind (goal.at.overflow_add-len c).In-Bytes in search rules
 
 pub slice_bounds-is_decided-end : goal.slice_bounds-is_decided-end
-slice_bounds-is_decided-end c = (behind c).1
+slice_bounds-is_decided-end c = (behind (goal.at.slice_bounds-is_decided-end c).In-Bytes).1
 
 pub slice_bounds-is_decided-end-in-Bytes : goal.slice_bounds-is_decided-end-in-Bytes
-slice_bounds-is_decided-end-in-Bytes c = sym (length-take-le _ _ (behind c.before).1)
+slice_bounds-is_decided-end-in-Bytes c = sym (length-take-le _ _ (behind (goal.at.slice_bounds-is_decided-end-in-Bytes c).In-Bytes).1)
 
 pub returns-then-is_decided : goal.returns-then-is_decided
-returns-then-is_decided c = ((behind c.before.before.before).1, sym c.is_decided.ensures.value ∙ c.if-is_decided.true)
+returns-then-is_decided c = ((behind (goal.at.returns-then-is_decided c).In-Bytes).1, sym c.is_decided.ensures.value ∙ c.if-is_decided.true)
 
 pub loop-len-smaller : goal.loop-len-smaller
-loop-len-smaller c = let h = behind c.before.before.before in search rules
+loop-len-smaller c = let h = behind (goal.at.loop-len-smaller c).In-Bytes in search rules
 
 pub loop-len-preserved : goal.loop-len-preserved
-loop-len-preserved c = let h = behind c.before.before.before in (h.1, (search rules, sym c.is_decided.ensures.value ∙ c.if-is_decided.false))
+loop-len-preserved c = let h = behind (goal.at.loop-len-preserved c).In-Bytes in (h.1, (search rules, sym c.is_decided.ensures.value ∙ c.if-is_decided.false))
