@@ -97,11 +97,11 @@ module _ (c : After-sort_linked-sorted) where
 
 pub returns-then-not-sorted : goal.returns-then-not-sorted
 returns-then-not-sorted c = let p = pool_of c.args.table.now in record {
-      stands_value =
-          sym (stood (goal.at.returns-then-not-sorted c).After-sort_linked-sorted
-          ∙ ap (λ (b : Bool). b && clusters_within p) (not-true c.sort_linked-sorted.result.stands c.if-not-sorted.true));
-      laid_out = λ e. absurd (false≢true e);
-    }
+  stands_value =
+      sym (stood (goal.at.returns-then-not-sorted c).After-sort_linked-sorted
+      ∙ ap (λ (b : Bool). b && clusters_within p) (not-true c.sort_linked-sorted.result.stands c.if-not-sorted.true));
+  laid_out = λ e. absurd (false≢true e);
+}
 
 -- ---- the slots by txid
 

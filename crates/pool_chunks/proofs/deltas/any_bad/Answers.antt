@@ -25,9 +25,9 @@ returns-then-not-delta_in_range c =
 
 pub loop-s-preserved : goal.loop-s-preserved
 loop-s-preserved c = elim c.if-is_occupied.branch [
-  then-is_occupied+else-not-delta_in_range w ↦
-    fine_in c.loop-s.invariant (search rules)
-    (sym (w.delta_in_range.ensures ∙ ap delta_in_range (to_z-of_z w64 _ (search rules))) ∙ w.if-not-delta_in_range.false)
+  | then-is_occupied+else-not-delta_in_range w ↦
+      fine_in c.loop-s.invariant (search rules)
+      (sym (w.delta_in_range.ensures ∙ ap delta_in_range (to_z-of_z w64 _ (search rules))) ∙ w.if-not-delta_in_range.false)
   | else-is_occupied w ↦ fine_free c.loop-s.invariant (search rules) (sym c.is_occupied.ensures ∙ w.if-is_occupied.false)
 ]
 
