@@ -34,6 +34,10 @@ pub words_fit : (n : ℕ) → n ≤ capacity → words_for n ≤ memory_length
 unfolding words_for
 words_fit n h = cond_where (λ (k : ℕ). k ≤ memory_length) (eqb n 0) (λ _. omega arith) (λ _. omega arith)
 
+-- a table's words are in the memory
+pub words_in : (n words : ℕ) (memory : List ℕ) → words ≡ words_for n → n ≤ capacity → length memory ≡ memory_length → words ≤ length memory
+words_in n words memory e h l = omega (arith, e, words_fit n h, l)
+
 -- a table that a call left, put back in front of the rest of the memory
 pub put_back : (words : ℕ) (new memory : List ℕ) {t : List ℕ} → words ≤ length memory → length new ≡ length (take words memory) → new ≡ t
     → new ++ drop words memory ≡ overwrite t memory

@@ -7,54 +7,54 @@ use borrow.Author.Rules.{rules}
 use lib.IntN.{pos}
 use Rattle.pool_session.specs.Memory.{words_for}
 use Rattle.pool_session.proofs.Memory.{wipes_all, wipes_nothing}
-use Rattle.pool_session.proofs.Steps.{words_fit, put_back}
+use Rattle.pool_session.proofs.Steps.{words_in, put_back}
 use Rattle.pool_session.proofs.clear_pool.Goals as goal
-use Rattle.pool_session.proofs.clear_pool.Goals.{After-words_for-words, Start}
-
-fits : (c : After-words_for-words) → c.words_for-words.result ≤ length c.args.memory.now
-fits c =
-    let start = c.before.before.before in
-    omega (arith, c.words_for-words.ensures, words_fit start.args.n start.requires.few, start.requires.memory)
 
 -- there are as many deltas and marks as there can be slots
-some : (c : Start) → (c.args.n ≤ length c.args.deltas.now) × (c.args.n ≤ length c.args.marks.now)
-some c = (omega (arith, c.requires.few, c.requires.each.0), omega (arith, c.requires.few, c.requires.each.1))
+pub wipe_all-requires : goal.wipe_all-requires
+wipe_all-requires c =
+    (omega (arith, c.requires.few, c.requires.each.0), omega (arith, c.requires.few, c.requires.each.1))
 
 pub returns-then-answer-eq0 : goal.returns-then-answer-eq0
-returns-then-answer-eq0 c = let wipe = c.before.before.before.before.before in
-    let then = wipe.before.before.before in
-    let call = then.before.before.before in
-    let words = call.before.before in
-    let start = words.before.before.before in
-    let q = rw words.words_for-words.ensures at call.clear-answer.ensures in
-    let z = sym q.0 ∙ then.if-answer-eq0.true in
-    let s = some start in
+returns-then-answer-eq0 c =
+    let r = c.clear-answer.ensures in
+    let answer = rw c.words_for-words.ensures at r.value in
+    let after = rw c.words_for-words.ensures at r.table_after in
+    let z = sym answer ∙ c.if-answer-eq0.true in
+    let w = c.write_number.ensures in
     λ k. record {
-      words = put_back words.words_for-words.result call.clear-answer.new.0 start.args.memory.now (fits words) call.clear-answer.auto.0 q.1;
-      deltas = wipe.wipe_all.ensures.deltas_after ∙ wipes_all start.args.n start.args.deltas.now s.0 _ (pos 0) z;
-      marks = wipe.wipe_all.ensures.marks_after ∙ wipes_all start.args.n start.args.marks.now s.1 _ 0 z;
-      says = rw z c.write_number.ensures;
+      words =
+          put_back c.words_for-words.result c.clear-answer.new.table c.args.memory.now
+          (words_in c.args.n c.words_for-words.result c.args.memory.now c.words_for-words.ensures c.requires.few c.requires.memory) c.clear-answer.auto.table after;
+      deltas =
+          c.wipe_all.ensures.deltas_after ∙ wipes_all c.args.n c.args.deltas.now (omega (arith, c.requires.few, c.requires.each.0)) _ (pos 0) z;
+      marks = c.wipe_all.ensures.marks_after ∙ wipes_all c.args.n c.args.marks.now (omega (arith, c.requires.few, c.requires.each.1)) _ 0 z;
+      says = (rw z w.value, rw z w.out_after);
     }
 
 pub returns : goal.returns
-returns c = let else = c.before.before in
-    let call = else.before.before.before in
-    let words = call.before.before in
-    let start = words.before.before.before in
-    let q = rw words.words_for-words.ensures at call.clear-answer.ensures in
-    let s = some start in
+returns c =
+    let r = c.clear-answer.ensures in
+    let answer = rw c.words_for-words.ensures at r.value in
+    let after = rw c.words_for-words.ensures at r.table_after in
+    let w = c.write_number-2.ensures in
     λ k. record {
-      words = put_back words.words_for-words.result call.clear-answer.new.0 start.args.memory.now (fits words) call.clear-answer.auto.0 q.1;
-      deltas = wipes_nothing start.args.n start.args.deltas.now s.0 _ (pos 0) (λ e. else.if-answer-eq0.false (q.0 ∙ e));
-      marks = wipes_nothing start.args.n start.args.marks.now s.1 _ 0 (λ e. else.if-answer-eq0.false (q.0 ∙ e));
-      says = rw q.0 at c.write_number-2.ensures;
+      words =
+          put_back c.words_for-words.result c.clear-answer.new.table c.args.memory.now
+          (words_in c.args.n c.words_for-words.result c.args.memory.now c.words_for-words.ensures c.requires.few c.requires.memory) c.clear-answer.auto.table after;
+      deltas =
+          wipes_nothing c.args.n c.args.deltas.now (omega (arith, c.requires.few, c.requires.each.0)) _ (pos 0)
+          (λ e. c.if-answer-eq0.false (answer ∙ e));
+      marks =
+          wipes_nothing c.args.n c.args.marks.now (omega (arith, c.requires.few, c.requires.each.1)) _ 0
+          (λ e. c.if-answer-eq0.false (answer ∙ e));
+      says = (rw answer at w.value, rw answer at w.out_after);
     }
 
 pub slice_bounds-clear-end : goal.slice_bounds-clear-end
-slice_bounds-clear-end c = fits c
+slice_bounds-clear-end c = words_in c.args.n c.words_for-words.result c.args.memory.now c.words_for-words.ensures c.requires.few c.requires.memory
 
 pub slice_bounds-clear-end-2 : goal.slice_bounds-clear-end-2
-slice_bounds-clear-end-2 c = sym (length-take-le c.words_for-words.result c.args.memory.now (fits c.before))
-
-pub wipe_all-requires : goal.wipe_all-requires
-wipe_all-requires c = some c.before.before.before.before.before.before.before.before.before.before
+slice_bounds-clear-end-2 c =
+    sym (length-take-le c.words_for-words.result c.args.memory.now
+    (words_in c.args.n c.words_for-words.result c.args.memory.now c.words_for-words.ensures c.requires.few c.requires.memory))

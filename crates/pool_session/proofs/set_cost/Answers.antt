@@ -4,26 +4,26 @@ use native.Mathlib.Omega.{arith}
 use lib.ListN.{length}
 use lib.Seq.{length-take-le}
 use borrow.Author.Rules.{rules}
-use Rattle.pool_session.proofs.Steps.{words_fit, put_back}
+use Rattle.pool_session.proofs.Steps.{words_in, put_back}
 use Rattle.pool_session.proofs.set_cost.Goals as goal
-use Rattle.pool_session.proofs.set_cost.Goals.{After-words_for-words}
-
-fits : (c : After-words_for-words) → c.words_for-words.result ≤ length c.args.memory.now
-fits c =
-    let start = c.before.before in
-    omega (arith, c.words_for-words.ensures, words_fit start.args.n start.requires.n_le_capacity, start.requires.memory_len)
 
 pub returns : goal.returns
-returns c = let call = c.before.before.before.before in
-    let words = call.before.before in
-    let q = rw words.words_for-words.ensures at call.set_cost-reply.ensures in record {
-      memory_after = put_back words.words_for-words.result call.set_cost-reply.new.0 words.args.memory.now (fits words) call.set_cost-reply.auto.0
-          q.1;
-      says = rw q.0 at c.write_placed.ensures;
+returns c =
+    let r = c.set_cost-reply.ensures in
+    let reply = rw c.words_for-words.ensures at r.value in
+    let after = rw c.words_for-words.ensures at r.table_after in
+    let w = c.write_placed.ensures in
+    record {
+      memory_after =
+          put_back c.words_for-words.result c.set_cost-reply.new.table c.args.memory.now
+          (words_in c.args.n c.words_for-words.result c.args.memory.now c.words_for-words.ensures c.requires.n_le_capacity c.requires.memory_len) c.set_cost-reply.auto.table after;
+      says = (rw reply at w.value, rw reply at w.out_after);
     }
 
 pub slice_bounds-set_cost-end : goal.slice_bounds-set_cost-end
-slice_bounds-set_cost-end c = fits c
+slice_bounds-set_cost-end c = words_in c.args.n c.words_for-words.result c.args.memory.now c.words_for-words.ensures c.requires.n_le_capacity c.requires.memory_len
 
 pub slice_bounds-set_cost-end-2 : goal.slice_bounds-set_cost-end-2
-slice_bounds-set_cost-end-2 c = sym (length-take-le c.words_for-words.result c.args.memory.now (fits c.before))
+slice_bounds-set_cost-end-2 c =
+    sym (length-take-le c.words_for-words.result c.args.memory.now
+    (words_in c.args.n c.words_for-words.result c.args.memory.now c.words_for-words.ensures c.requires.n_le_capacity c.requires.memory_len))

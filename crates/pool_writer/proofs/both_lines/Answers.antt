@@ -10,14 +10,16 @@ use Rattle.pool_writer.proofs.both_lines.Goals as goal
 
 pub returns : goal.returns
 unfolding selected_text
-returns c = let newline = c.before.before in
-    let txids = newline.before.before.before.before.before in
-    let second = txids.before.before.before.before in
-    let slots = second.before.before.before.before.before in
-    let first = slots.before.before.before.before in
-    let start = first.before.before.before.before.before.before in
-    let all = two selected_name _ (writes first.write_bytes-at.ensures)
-    (two (commas start.args.slots.now) _ (writes slots.write_numbers-at.ensures)
-    (three txids_name (joined (slot_text start.args.table.now) start.args.slots.now) (10 ∷ []) (writes second.write_bytes-at-2.ensures)
-    txids.write_txids-at.ensures (writes newline.write_bytes.ensures))) in
-    at_start (all (record { fits = omega (arith, start.requires.out_len, selected_length start.args.table.now start.args.slots.now start.requires.slots_len_bound) }))
+returns c =
+    let first = c.write_bytes-at.ensures in
+    let slots = c.write_numbers-at.ensures in
+    let second = c.write_bytes-at-2.ensures in
+    let newline = c.write_bytes.ensures in
+    let all =
+    two selected_name _ (writes (first.value, first.out_after))
+    (two (commas c.args.slots.now) _ (writes (slots.value, slots.out_after))
+    (three txids_name (joined (slot_text c.args.table.now) c.args.slots.now) (10 ∷ []) (writes (second.value, second.out_after))
+    c.write_txids-at.ensures (writes (newline.value, newline.out_after)))) in
+    let r =
+    at_start (all (record { fits = omega (arith, c.requires.out_len, selected_length c.args.table.now c.args.slots.now c.requires.slots_len_bound) })) in
+    record { value = r.0; out_after = r.1 }

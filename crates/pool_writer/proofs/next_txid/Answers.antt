@@ -8,15 +8,11 @@ use Rattle.pool_writer.proofs.next_txid.Goals as goal
 
 pub returns-then-k-eq0 : goal.returns-then-k-eq0
 unfolding item
-returns-then-k-eq0 c = let wrote = c.before.before in
-    let then = wrote.before.before in
-    rw then.if-k-eq0.true (rw then.txid-txid.ensures at wrote.write_txid.ensures)
+returns-then-k-eq0 c = rw c.if-k-eq0.true (rw c.txid-txid.ensures at c.write_txid.ensures)
 
 pub returns : goal.returns
-returns c = let wrote = c.before.before in
-    let comma = wrote.before.before.before.before in
-    let else = comma.before.before.before in
-    let args = else.args in
-    rw (later_item (slot_text args.table.now) args.k args.slot else.if-k-eq0.false)
-    (two (44 ∷ []) (slot_text args.table.now args.slot) (writes comma.write_bytes-at.ensures)
-    (rw else.txid-txid.ensures at wrote.write_txid-2.ensures))
+returns c =
+    let comma = c.write_bytes-at.ensures in
+    rw (later_item (slot_text c.args.table.now) c.args.k c.args.slot c.if-k-eq0.false)
+    (two (44 ∷ []) (slot_text c.args.table.now c.args.slot) (writes (comma.value, comma.out_after))
+    (rw c.txid-txid.ensures at c.write_txid-2.ensures))

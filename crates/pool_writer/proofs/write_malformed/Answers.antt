@@ -7,6 +7,7 @@ use Rattle.pool_writer.proofs.write_malformed.Goals as goal
 
 pub returns : goal.returns
 unfolding malformed_text
-returns c = at_start (writes c.write_line.ensures (record {
-  fits = omega (arith, line_length line_name c.args.line (omega arith));
-}))
+returns c =
+    let w = c.write_line.ensures in
+    let r = at_start (writes (w.value, w.out_after) (record { fits = omega (arith, line_length line_name c.args.line (omega arith)) })) in
+    record { value = r.0; out_after = r.1 }

@@ -9,7 +9,10 @@ use Rattle.pool_writer.proofs.write_number.Goals as goal
 
 pub returns : goal.returns
 unfolding number_text
-returns c = let digits = c.before.before.before in
-    let number = digits.args.number in
-    at_start (two (decimal number) (10 ∷ []) (writes digits.write_decimal-at.ensures) (writes c.write_bytes.ensures)
-    (record { fits = omega (arith, number_length number) }))
+returns c =
+    let digits = c.write_decimal-at.ensures in
+    let newline = c.write_bytes.ensures in
+    let r =
+    at_start (two (decimal c.args.number) (10 ∷ []) (writes (digits.value, digits.out_after)) (writes (newline.value, newline.out_after))
+    (record { fits = omega (arith, number_length c.args.number) })) in
+    record { value = r.0; out_after = r.1 }

@@ -6,15 +6,18 @@ use Rattle.slotsets.specs.SlotSets.{capacity}
 use Rattle.pool_writer.proofs.write_selected.Goals as goal
 
 pub returns : goal.returns
-returns c = let else = c.before.before in
-    rw (take_all capacity else.args.slots.now else.if-slots-gt-CAPACITY.false) c.both_lines-2.ensures
+returns c =
+    let all = take_all capacity c.args.slots.now c.if-slots-gt-CAPACITY.false in
+    let w = c.both_lines-2.ensures in
+    record { value = rw all w.value; out_after = rw all w.out_after }
 
 pub slice_bounds-both_lines-end : goal.slice_bounds-both_lines-end
 slice_bounds-both_lines-end c = sym (length-take-le capacity c.args.slots.now (omega (arith, c.if-slots-gt-CAPACITY.true)))
 
 pub both_lines-requires : goal.both_lines-requires
-both_lines-requires c = let then = c.before.before in
-    let slots = then.args.slots.now in record {
-      slots_len_bound = omega (arith, length-take-le capacity slots (omega (arith, then.if-slots-gt-CAPACITY.true)));
+both_lines-requires c =
+    let slots = c.args.slots.now in
+    record {
+      slots_len_bound = omega (arith, length-take-le capacity slots (omega (arith, c.if-slots-gt-CAPACITY.true)));
       out_len = search rules;
     }

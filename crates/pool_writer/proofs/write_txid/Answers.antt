@@ -5,11 +5,7 @@ use Rattle.pool_writer.proofs.write_txid.Goals as goal
 
 pub returns : goal.returns
 unfolding txid_text
-returns c = let fourth = c.before.before in
-    let third = fourth.before.before.before.before in
-    let second = third.before.before.before.before in
-    let first = second.before.before.before.before in
-    let txid = first.args.txid in
-    two (word_text txid.w0) _ first.write_word-at.ensures
-    (three (word_text txid.w1) (word_text txid.w2) (word_text txid.w3) second.write_word-at-2.ensures third.write_word-at-3.ensures
-    fourth.write_word.ensures)
+returns c =
+    let txid = c.args.txid in
+    two (word_text txid.w0) _ c.write_word-at.ensures
+    (three (word_text txid.w1) (word_text txid.w2) (word_text txid.w3) c.write_word-at-2.ensures c.write_word-at-3.ensures c.write_word.ensures)

@@ -13,10 +13,9 @@ pub loop-k-init : goal.loop-k-init
 loop-k-init c = (refl, λ r. items_start refl r)
 
 pub loop-k-preserved : goal.loop-k-preserved
-loop-k-preserved c = let wrote = c.before.before in
-    let turn = wrote.before.before.before in
-    let inv = turn.loop-k.invariant in
-    (wrote.next_txid-at.auto.1.1.1.0 ∙ inv.0, λ r. item_wrote (inv.1 r) turn.loop-k-test.true wrote.next_txid-at.ensures)
+loop-k-preserved c =
+    let inv = c.loop-k.invariant in
+    (c.next_txid-at.auto.out ∙ inv.0, λ r. item_wrote (inv.1 r) c.loop-k-test.true c.next_txid-at.ensures)
 
 pub shape_of-out : goal.shape_of-out
 shape_of-out c = c.loop-k.invariant.0

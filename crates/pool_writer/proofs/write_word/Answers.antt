@@ -3,6 +3,7 @@ use Rattle.texts.proofs.Append.{writes}
 use Rattle.pool_writer.proofs.write_word.Goals as goal
 
 pub returns : goal.returns
-returns c = let hex = c.before.before in
-    let bytes = hex.before.before.before in
-    writes (rw bytes.bytes_of-bytes.ensures at hex.write_hex.ensures)
+returns c =
+    let hex = c.write_hex.ensures in
+    let is = c.bytes_of-bytes.ensures in
+    writes (rw is at hex.value, rw is at hex.out_after)

@@ -6,29 +6,30 @@ use Rattle.pool_session.specs.Session.{setting_answer, mark_of}
 use Rattle.pool_session.proofs.Memory.{sets, sets_past}
 use Rattle.pool_session.proofs.Steps.{has_slot, no_slot}
 use Rattle.pool_session.proofs.settings.put_mark.Goals as goal
-use Rattle.pool_session.proofs.settings.put_mark.Goals.{Then-answer-eq0}
-
-within : (c : Then-answer-eq0) → c.args.marking.slot < c.args.n
-within c = has_slot _ _ (sym c.setting_answer-answer.ensures ∙ c.if-answer-eq0.true)
 
 pub returns-then-answer-eq0 : goal.returns-then-answer-eq0
-returns-then-answer-eq0 c = let mark = c.before.before in
-    let then = mark.before in
-    let start = then.before.before.before in
-    let a = start.args in record {
-      marks_after = rw mark.mark_of.ensures (sets a.n a.marks.now start.requires a.marking.slot (mark_of a.marking.mark) (within then));
-      says = rw (sym then.setting_answer-answer.ensures ∙ then.if-answer-eq0.true) c.write_number.ensures;
+returns-then-answer-eq0 c =
+    let m = c.args.marking in
+    let zero = sym c.setting_answer-answer.ensures ∙ c.if-answer-eq0.true in
+    let w = c.write_number.ensures in
+    record {
+      marks_after =
+          rw c.mark_of.ensures (sets c.args.n c.args.marks.now c.requires m.slot (mark_of m.mark) (has_slot c.args.n m.slot zero));
+      says = (rw zero w.value, rw zero w.out_after);
     }
 
 pub returns : goal.returns
-returns c = let else = c.before.before in
-    let asked = else.before in
-    let start = asked.before.before in
-    let a = start.args in record {
-      marks_after = sets_past a.n a.marks.now start.requires a.marking.slot (mark_of a.marking.mark)
-          (no_slot a.n a.marking.slot (λ e. else.if-answer-eq0.false (asked.setting_answer-answer.ensures ∙ e)));
-      says = rw asked.setting_answer-answer.ensures at c.write_number-2.ensures;
+returns c =
+    let m = c.args.marking in
+    let answer = c.setting_answer-answer.ensures in
+    let w = c.write_number-2.ensures in
+    record {
+      marks_after =
+          sets_past c.args.n c.args.marks.now c.requires m.slot (mark_of m.mark)
+          (no_slot c.args.n m.slot (λ e. c.if-answer-eq0.false (answer ∙ e)));
+      says = (rw answer at w.value, rw answer at w.out_after);
     }
 
 pub bounds-marks-at : goal.bounds-marks-at
-bounds-marks-at c = omega (arith, within c.before, c.requires)
+bounds-marks-at c =
+    omega (arith, has_slot c.args.n c.args.marking.slot (sym c.setting_answer-answer.ensures ∙ c.if-answer-eq0.true), c.requires)
