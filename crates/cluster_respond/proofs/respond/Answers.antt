@@ -1,6 +1,5 @@
 use native.Mathlib.Omega.{arith}
-use borrow.Author.Rules.{rules}
-use Rattle.cluster_respond.proofs.Answers.{Given, part_long, prints, refused_input, members_read, given_text}
+use Rattle.cluster_respond.proofs.Answers.{part_long, prints, refused_input, members_read, given_text}
 use Rattle.cluster_respond.proofs.respond.Goals as goal
 
 pub returns-in-Malformed : goal.returns-in-Malformed
