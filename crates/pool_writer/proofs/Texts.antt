@@ -1,14 +1,13 @@
 -- A txid's bytes as the loop writes them, and that all that is printed fits the room. Assumes nothing.
-use mathlib.Core.Path.{◌≡◌, refl, sym, ap, ◌∙◌}
+use mathlib.Core.Path.{◌≡◌, refl, sym, ◌∙◌}
 use mathlib.Core.List.{List, [], ◌∷◌, ◌++◌, append-nil, append_assoc}
-use Prim.Native.Nat.{ℕ, zero, suc, ◌+◌, ◌-◌, ◌*◌, ◌/◌, ◌%◌, ◌≤◌, ◌<◌}
+use Prim.Native.Nat.{ℕ, zero, suc, ◌-◌, ◌/◌, ◌%◌, ◌≤◌, ◌<◌}
 use native.Mathlib.Omega.{arith}
 use lib.ListN.{length, take, drop, set, length-append, length-set, drop_of_length-le}
 use lib.Seq.{drop_at, set_split, length-take-le}
 use Rattle.slotsets.specs.SlotSets.{capacity}
 use Rattle.txids.specs.declared.Txid.{Txid}
-use Rattle.texts.specs.Writing.{decimal, joined, commas, text_line}
-use Rattle.texts.specs.Hex.{hex_text}
+use Rattle.texts.specs.Writing.{decimal, text_line}
 use Rattle.texts.proofs.Digits.{decimal_length}
 use Rattle.texts.proofs.HexText.{text_length}
 use Rattle.texts.proofs.Numbers.{joined_length, commas_length}

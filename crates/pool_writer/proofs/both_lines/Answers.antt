@@ -1,6 +1,5 @@
 use mathlib.Core.List.{[], ◌∷◌}
 use native.Mathlib.Omega.{arith}
-use borrow.Author.Rules.{rules}
 use Rattle.texts.specs.Writing.{commas, joined}
 use Rattle.texts.proofs.Append.{two, three, at_start, writes}
 use Rattle.pool_writer.specs.Texts.{slot_text}

@@ -1,6 +1,6 @@
 use borrow.Author.Rules.{rules}
 use native.Mathlib.Omega.{arith}
-use Rattle.pool_writer.proofs.Texts.{Spelling, none_spelt, byte_spelt, all_spelt}
+use Rattle.pool_writer.proofs.Texts.{none_spelt, byte_spelt, all_spelt}
 use Rattle.pool_writer.proofs.bytes_of.Goals as goal
 
 pub loop-k-init : goal.loop-k-init

@@ -1,6 +1,4 @@
-use borrow.Author.Rules.{rules}
-use native.Mathlib.Omega.{arith}
-use Rattle.pool_writer.proofs.Texts.{Spelling, none_spelt, byte_spelt, all_spelt}
+use Rattle.pool_writer.proofs.Texts.{Spelling}
 use Rattle.pool_writer.proofs.bytes_of.Given as goal
 
 abbrev pub invariant-loop-k : goal.invariant-loop-k

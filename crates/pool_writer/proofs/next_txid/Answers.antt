@@ -1,9 +1,8 @@
 use mathlib.Core.List.{[], ◌∷◌}
-use borrow.Author.Rules.{rules}
 use Rattle.texts.specs.Writing.{item}
 use Rattle.texts.proofs.Append.{two, writes}
 use Rattle.texts.proofs.Numbers.{later_item}
-use Rattle.pool_writer.specs.Texts.{txid_text, slot_text}
+use Rattle.pool_writer.specs.Texts.{slot_text}
 use Rattle.pool_writer.proofs.next_txid.Goals as goal
 
 pub returns-then-k-eq0 : goal.returns-then-k-eq0

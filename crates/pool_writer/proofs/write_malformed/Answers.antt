@@ -1,5 +1,4 @@
 use native.Mathlib.Omega.{arith}
-use borrow.Author.Rules.{rules}
 use Rattle.texts.proofs.Append.{at_start, writes}
 use Rattle.pool_writer.specs.Answers.{line_name, malformed_text}
 use Rattle.pool_writer.proofs.Texts.{line_length}

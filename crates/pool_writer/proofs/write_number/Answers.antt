@@ -1,6 +1,5 @@
 use mathlib.Core.List.{[], ◌∷◌}
 use native.Mathlib.Omega.{arith}
-use borrow.Author.Rules.{rules}
 use Rattle.texts.specs.Writing.{decimal}
 use Rattle.texts.proofs.Append.{two, at_start, writes}
 use Rattle.pool_writer.specs.Answers.{number_text}

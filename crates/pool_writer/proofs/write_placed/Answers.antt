@@ -1,5 +1,4 @@
 use native.Mathlib.Omega.{arith}
-use borrow.Author.Rules.{rules}
 use borrow.Author.Tests.{eq-eqb, ne_eqb}
 use Rattle.texts.proofs.Append.{at_start, writes}
 use Rattle.pool_writer.specs.Answers.{slot_name, placed_text}

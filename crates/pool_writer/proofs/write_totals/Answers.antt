@@ -1,5 +1,4 @@
 use native.Mathlib.Omega.{arith}
-use borrow.Author.Rules.{rules}
 use borrow.Author.Tests.{eq-eqb, ne_eqb}
 use Rattle.texts.specs.Writing.{decimal, text_line}
 use Rattle.texts.proofs.Append.{three, at_start, writes}

@@ -1,4 +1,3 @@
-use borrow.Author.Rules.{rules}
 use Rattle.texts.proofs.Append.{two, three}
 use Rattle.pool_writer.specs.Texts.{word_text, txid_text}
 use Rattle.pool_writer.proofs.write_txid.Goals as goal

@@ -1,12 +1,5 @@
-use mathlib.Core.Path.{◌≡◌, refl, ◌∙◌}
-use Prim.Native.Nat.{◌-◌}
-use native.Mathlib.Omega.{arith}
-use lib.ListN.{length}
-use borrow.Author.Rules.{rules}
-use Rattle.texts.specs.Writing.{joined}
-use Rattle.texts.specs.Rooms.{Room}
-use Rattle.texts.proofs.Numbers.{ItemsLeft, items_start, item_wrote, items_done}
-use Rattle.pool_writer.specs.Texts.{slot_text}
+use mathlib.Core.Path.{refl, ◌∙◌}
+use Rattle.texts.proofs.Numbers.{items_start, item_wrote, items_done}
 use Rattle.pool_writer.proofs.write_txids.Goals as goal
 
 pub loop-k-init : goal.loop-k-init

@@ -1,11 +1,9 @@
-use mathlib.Core.Path.{◌≡◌, refl, ◌∙◌}
+use mathlib.Core.Path.{◌≡◌}
 use Prim.Native.Nat.{◌-◌}
-use native.Mathlib.Omega.{arith}
 use lib.ListN.{length}
-use borrow.Author.Rules.{rules}
 use Rattle.texts.specs.Writing.{joined}
 use Rattle.texts.specs.Rooms.{Room}
-use Rattle.texts.proofs.Numbers.{ItemsLeft, items_start, item_wrote, items_done}
+use Rattle.texts.proofs.Numbers.{ItemsLeft}
 use Rattle.pool_writer.specs.Texts.{slot_text}
 use Rattle.pool_writer.proofs.write_txids.Given as goal
 

@@ -1,4 +1,3 @@
-use borrow.Author.Rules.{rules}
 use Rattle.texts.proofs.Append.{writes}
 use Rattle.pool_writer.proofs.write_word.Goals as goal
 
