@@ -1,13 +1,10 @@
-use mathlib.Core.Path.{◌≡◌, refl, sym, ap, ◌∙◌}
-use mathlib.Core.List.{List, [], ◌∷◌, ◌++◌}
-use Prim.Native.Nat.{ℕ, ◌+◌, ◌≤◌, ◌<◌}
-use native.Mathlib.Omega.{arith}
-use lib.ListN.{length, take, drop, get_or}
+use mathlib.Core.Path.{◌≡◌, sym, ap, ◌∙◌}
+use mathlib.Core.List.{List, ◌∷◌}
+use Prim.Native.Nat.{ℕ}
+use lib.ListN.{length}
 use borrow.Author.Rules.{rules}
-use borrow.Author.Tests.{not-true, not-false}
-use Rattle.pool_rules.specs.Calls.{entry_of}
-use Rattle.pool_reader.specs.Requests.{add, as_add, numbers_in}
-use Rattle.pool_reader.specs.Steps.{start_numbers, words_at, TxidTo, Numbers}
+use Rattle.pool_reader.specs.Requests.{as_add}
+use Rattle.pool_reader.specs.Steps.{start_numbers, words_at}
 use Rattle.pool_reader.proofs.Reading.{txid_malformed, txid_at_lem, txid_is}
 use Rattle.pool_reader.proofs.Reading.{numbers_malformed, numbers_at, txids_malformed, txids_bytes, count_read}
 use Rattle.pool_reader.proofs.Asking.{no_txid_add, no_numbers_add, no_parents_add, is_add}

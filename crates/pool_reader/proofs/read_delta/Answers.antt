@@ -1,21 +1,17 @@
-use mathlib.Core.Path.{◌≡◌, refl, sym, ap, ◌∙◌}
+use mathlib.Core.Path.{◌≡◌, sym, ap, ◌∙◌}
 use mathlib.Core.List.{List, [], ◌∷◌, ◌++◌}
-use Prim.Native.Nat.{ℕ, ◌+◌, ◌≤◌, ◌<◌}
+use Prim.Native.Nat.{ℕ, ◌+◌, ◌≤◌}
 use native.Mathlib.Omega.{arith}
-use lib.ListN.{length, take, drop, get_or}
+use lib.ListN.{length, take, drop}
 use borrow.Author.Rules.{rules}
-use borrow.Author.Tests.{not-true, not-false}
-use mathlib.Core.Path.{subst}
 use Prim.Native.Nat.{◌-◌}
 use mir.Syntax.{w64}
 use mir.Val.{SFits}
 use mir.Facts.{to_z-of_z}
-use lib.IntN.{ℤ}
-use borrow.Author.Rules.{sfits_of}
 use Rattle.texts.specs.Numerals.{signed_of}
 use Rattle.texts.specs.Places.{before, place_of}
 use Rattle.texts.proofs.Places.{place_before, place_le}
-use Rattle.pool_reader.specs.Requests.{delta, as_delta, numbers_in}
+use Rattle.pool_reader.specs.Requests.{as_delta}
 use Rattle.pool_reader.specs.Steps.{start_numbers, words_at, Numbers}
 use Rattle.pool_reader.proofs.Reading.{numbers_malformed, numbers_at, count_read, words_none, words_next}
 use Rattle.pool_reader.proofs.Asking.{no_slot, slot_alone, slot_more, no_sats, is_delta}

@@ -1,14 +1,5 @@
-use mathlib.Core.Path.{◌≡◌, refl, sym, ap, ◌∙◌}
-use mathlib.Core.List.{List, [], ◌∷◌, ◌++◌}
-use Prim.Native.Nat.{ℕ, ◌+◌, ◌≤◌, ◌<◌}
-use native.Mathlib.Omega.{arith}
-use lib.ListN.{length, take, drop, get_or}
-use borrow.Author.Rules.{rules}
-use borrow.Author.Tests.{not-true, not-false}
-use lib.Seq.{length-take-le}
-use mathlib.Core.Bool.{true, false}
-use Rattle.lists.specs.Lists.{same}
-use Rattle.pool_reader.specs.Requests.{clear, totals, make_word, clear_word, totals_word, delta_word, mark_word}
+use mathlib.Core.Path.{sym, ◌∙◌}
+use Rattle.pool_reader.specs.Requests.{clear, totals}
 use Rattle.pool_reader.proofs.Asking.{by_make, by_clear, by_totals, by_delta, by_mark, by_template, by_none, alone, not_alone}
 use Rattle.pool_reader.proofs.read_plain.Goals as goal
 

@@ -1,16 +1,12 @@
-use mathlib.Core.Path.{◌≡◌, refl, sym, ap, ◌∙◌}
-use mathlib.Core.List.{List, [], ◌∷◌, ◌++◌}
-use Prim.Native.Nat.{ℕ, ◌+◌, ◌≤◌, ◌<◌}
+use mathlib.Core.Path.{◌≡◌, sym, ap, ◌∙◌}
+use mathlib.Core.List.{List}
+use Prim.Native.Nat.{ℕ, ◌+◌, ◌≤◌}
 use native.Mathlib.Omega.{arith}
-use lib.ListN.{length, take, drop, get_or}
-use borrow.Author.Rules.{rules}
-use borrow.Author.Tests.{not-true, not-false}
+use lib.ListN.{length, take}
 use lib.Seq.{length-take-le}
-use mathlib.Core.Bool.{true, false}
-use Rattle.lists.specs.Lists.{same}
 use Rattle.texts.specs.Places.{place_of}
 use Rattle.texts.proofs.Places.{place_le}
-use Rattle.pool_reader.specs.Requests.{longest_line, request_of, by_word, add_word, remove_word, set_cost_word}
+use Rattle.pool_reader.specs.Requests.{longest_line, request_of, by_word}
 use Rattle.pool_reader.specs.Steps.{words_at, Place}
 use Rattle.pool_reader.proofs.Asking.{too_long, by_word_lem, first_within, by_add, by_remove, by_set_cost, by_plain}
 use Rattle.pool_reader.proofs.read_request.Goals as goal

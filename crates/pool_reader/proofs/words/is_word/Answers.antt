@@ -1,10 +1,6 @@
-use mathlib.Core.Path.{◌≡◌, refl, sym, ◌∙◌}
-use mathlib.Core.List.{List}
-use Prim.Native.Nat.{ℕ, ◌≤◌, ◌+◌, ◌-◌}
+use mathlib.Core.Path.{refl, sym, ◌∙◌}
 use native.Mathlib.Omega.{arith}
-use lib.ListN.{length, get_or, drop}
 use borrow.Author.Rules.{rules}
-use Rattle.lists.specs.Lists as spec
 use Rattle.pool_reader.proofs.Reading.{same_short, same_other, same_turn, same_end}
 use Rattle.pool_reader.proofs.words.is_word.Goals as goal
 

@@ -1,11 +1,7 @@
-use mathlib.Core.Path.{◌≡◌, refl, sym, ◌∙◌}
-use mathlib.Core.List.{List}
-use Prim.Native.Nat.{ℕ, ◌≤◌, ◌+◌, ◌-◌}
-use native.Mathlib.Omega.{arith}
-use lib.ListN.{length, get_or, drop}
-use borrow.Author.Rules.{rules}
+use mathlib.Core.Path.{◌≡◌}
+use Prim.Native.Nat.{◌≤◌, ◌-◌}
+use lib.ListN.{length, drop}
 use Rattle.lists.specs.Lists as spec
-use Rattle.pool_reader.proofs.Reading.{same_short, same_other, same_turn, same_end}
 use Rattle.pool_reader.proofs.words.is_word.Given as goal
 
 abbrev pub invariant-loop-i : goal.invariant-loop-i

@@ -1,17 +1,9 @@
-use mathlib.Core.Path.{◌≡◌, refl, sym, ap, ◌∙◌}
-use mathlib.Core.List.{List, [], ◌∷◌, ◌++◌}
-use Prim.Native.Nat.{ℕ, ◌+◌, ◌≤◌, ◌<◌}
-use native.Mathlib.Omega.{arith}
-use lib.ListN.{length, take, drop, get_or}
-use borrow.Author.Rules.{rules}
-use borrow.Author.Tests.{not-true, not-false}
-use mathlib.Core.Bool.{Bool, true, false}
-use lib.Dec.{ltb}
+use mathlib.Core.Path.{refl, sym, ◌∙◌}
+use lib.ListN.{length}
 use borrow.Author.Tests.{lt-ltb, le-ltb, ltb-true}
 use Rattle.lists.proofs.Bools.{clash}
 use mathlib.Core.Logic.{⊎_elim}
 use Rattle.lists.proofs.Numbers.{lt_or_ge}
-use Rattle.pool_reader.specs.Steps.{Numbers}
 use Rattle.pool_reader.proofs.Reading.{numbers_malformed, numbers_at, not_only, numbers_end, numbers_more}
 use Rattle.pool_reader.proofs.words.only_numbers.Goals as goal
 

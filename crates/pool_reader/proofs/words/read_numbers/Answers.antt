@@ -1,14 +1,13 @@
-use mathlib.Core.Path.{◌≡◌, refl, sym, ap, ◌∙◌, subst}
+use mathlib.Core.Path.{◌≡◌, sym, ap, ◌∙◌}
 use mathlib.Core.List.{List}
-use Prim.Native.Nat.{ℕ, ◌+◌, ◌-◌, ◌≤◌}
+use Prim.Native.Nat.{ℕ, ◌-◌, ◌≤◌}
 use native.Mathlib.Omega.{arith}
-use lib.ListN.{length, take, drop, set, length-set}
-use borrow.Author.Rules.{rules}
+use lib.ListN.{length, take, drop, length-set}
 use Rattle.texts.specs.declared.numerals.Number.{Number}
 use Rattle.texts.specs.Numerals.{number_of}
 use Rattle.texts.specs.Places.{before, place_of}
 use Rattle.texts.proofs.Places.{place_before, place_le}
-use Rattle.pool_reader.proofs.Reading.{Counted, none_counted, no_word, no_number, counted, all_counted}
+use Rattle.pool_reader.proofs.Reading.{none_counted, no_word, no_number, counted, all_counted}
 use Rattle.pool_reader.proofs.words.read_numbers.Goals as goal
 
 pub returns-then-text-at : goal.returns-then-text-at

@@ -1,10 +1,7 @@
-use mathlib.Core.Path.{◌≡◌, refl, sym, ap, ◌∙◌, subst}
-use mathlib.Core.List.{List}
-use Prim.Native.Nat.{ℕ, ◌+◌, ◌-◌, ◌≤◌}
+use mathlib.Core.Path.{sym, ◌∙◌}
 use native.Mathlib.Omega.{arith}
-use lib.ListN.{length}
 use borrow.Author.Rules.{rules}
-use Rattle.pool_reader.proofs.Reading.{Gathered, none_gathered, one_fits, no_txid, gathered, all_gathered, txid_malformed, txid_at_lem}
+use Rattle.pool_reader.proofs.Reading.{none_gathered, one_fits, no_txid, gathered, all_gathered, txid_malformed, txid_at_lem}
 use Rattle.pool_reader.proofs.words.read_txids.Goals as goal
 
 pub returns-in_default : goal.returns-in_default

@@ -1,10 +1,6 @@
-use mathlib.Core.Path.{◌≡◌, refl, sym, ap, ◌∙◌, subst}
-use mathlib.Core.List.{List}
-use Prim.Native.Nat.{ℕ, ◌+◌, ◌-◌, ◌≤◌}
-use native.Mathlib.Omega.{arith}
+use Prim.Native.Nat.{◌+◌, ◌-◌}
 use lib.ListN.{length}
-use borrow.Author.Rules.{rules}
-use Rattle.pool_reader.proofs.Reading.{Gathered, none_gathered, one_fits, no_txid, gathered, all_gathered, txid_malformed, txid_at_lem}
+use Rattle.pool_reader.proofs.Reading.{Gathered}
 use Rattle.pool_reader.proofs.words.read_txids.Given as goal
 
 abbrev pub invariant-loop-at : goal.invariant-loop-at
