@@ -1,10 +1,9 @@
 use mathlib.Core.Path.{◌≡◌, sym, ap, ◌∙◌}
 use mathlib.Core.List.{List}
-use Prim.Native.Nat.{ℕ, ◌≤◌, min}
+use Prim.Native.Nat.{ℕ, min}
 use native.Mathlib.Omega.{arith}
 use lib.ListN.{length, take}
 use lib.Seq.{length-take-le}
-use borrow.Author.Rules.{rules}
 use Rattle.texts.proofs.Places.{take_min}
 use Rattle.pool_table.specs.declared.Entry.{Entry}
 use Rattle.pool_rules.specs.declared.Placed.{Placed}

@@ -1,11 +1,7 @@
-use mathlib.Core.Path.{◌≡◌, sym, ap, ◌∙◌}
-use Prim.Native.Nat.{◌≤◌}
+use mathlib.Core.Path.{sym, ◌∙◌}
 use native.Mathlib.Omega.{arith}
-use lib.ListN.{length}
 use lib.Seq.{length-take-le}
-use borrow.Author.Rules.{rules}
 use lib.IntN.{pos}
-use Rattle.pool_session.specs.Memory.{words_for}
 use Rattle.pool_session.proofs.Memory.{wipes_all, wipes_nothing}
 use Rattle.pool_session.proofs.Steps.{words_in, put_back}
 use Rattle.pool_session.proofs.clear_pool.Goals as goal

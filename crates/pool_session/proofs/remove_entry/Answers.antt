@@ -1,9 +1,6 @@
-use mathlib.Core.Path.{◌≡◌, sym, ap, ◌∙◌}
-use Prim.Native.Nat.{◌≤◌}
+use mathlib.Core.Path.{sym}
 use native.Mathlib.Omega.{arith}
-use lib.ListN.{length}
 use lib.Seq.{length-take-le}
-use borrow.Author.Rules.{rules}
 use Rattle.pool_session.proofs.Steps.{words_in, put_back}
 use Rattle.pool_session.proofs.remove_entry.Goals as goal
 

@@ -1,4 +1,3 @@
-use borrow.Author.Rules.{rules}
 use borrow.Author.Tests.{ne_eqb}
 use Rattle.pool_session.specs.Memory.{words_for}
 use Rattle.pool_session.proofs.words_for.Goals as goal

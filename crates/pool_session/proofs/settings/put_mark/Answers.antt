@@ -1,8 +1,6 @@
-use mathlib.Core.Path.{◌≡◌, sym, ◌∙◌}
-use Prim.Native.Nat.{◌<◌}
+use mathlib.Core.Path.{sym, ◌∙◌}
 use native.Mathlib.Omega.{arith}
-use borrow.Author.Rules.{rules}
-use Rattle.pool_session.specs.Session.{setting_answer, mark_of}
+use Rattle.pool_session.specs.Session.{mark_of}
 use Rattle.pool_session.proofs.Memory.{sets, sets_past}
 use Rattle.pool_session.proofs.Steps.{has_slot, no_slot}
 use Rattle.pool_session.proofs.settings.put_mark.Goals as goal

@@ -1,6 +1,5 @@
 use lib.IntN.{pos}
 use native.Mathlib.Omega.{arith}
-use borrow.Author.Rules.{rules}
 use Rattle.pool_session.proofs.Memory.{wipes_none, wipes_past, wipes_one}
 use Rattle.pool_session.proofs.settings.wipe.Goals as goal
 

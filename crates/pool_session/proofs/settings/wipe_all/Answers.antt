@@ -1,8 +1,5 @@
-use Prim.Native.Nat.{◌-◌, ◌≤◌}
 use native.Mathlib.Omega.{arith}
-use lib.IntN.{pos}
-use borrow.Author.Rules.{rules}
-use Rattle.pool_session.proofs.Memory.{Wiping, none_wiped, one_wiped, wiping_length, all_wiped}
+use Rattle.pool_session.proofs.Memory.{none_wiped, one_wiped, wiping_length, all_wiped}
 use Rattle.pool_session.proofs.settings.wipe_all.Goals as goal
 
 pub loop-s-init : goal.loop-s-init

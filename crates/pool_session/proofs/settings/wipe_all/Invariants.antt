@@ -1,8 +1,6 @@
 use Prim.Native.Nat.{◌-◌, ◌≤◌}
-use native.Mathlib.Omega.{arith}
 use lib.IntN.{pos}
-use borrow.Author.Rules.{rules}
-use Rattle.pool_session.proofs.Memory.{Wiping, none_wiped, one_wiped, wiping_length, all_wiped}
+use Rattle.pool_session.proofs.Memory.{Wiping}
 use Rattle.pool_session.proofs.settings.wipe_all.Given as goal
 
 -- the first s have none
