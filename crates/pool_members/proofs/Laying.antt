@@ -4,22 +4,22 @@ use mathlib.Core.Path.{◌≡◌, refl, sym, ap, ap₂, ◌∙◌, subst}
 use mathlib.Core.Bool.{Bool, true, false, not, ◌&&◌, ◌||◌}
 use mathlib.Core.Logic.{⊎_elim}
 use mathlib.Core.List.{List, [], ◌∷◌, ◌++◌, map, map-append, append-nil, flatten}
-use Prim.Native.Nat.{ℕ, suc, ◌+◌, ◌≤◌, ◌<◌}
+use Prim.Native.Nat.{ℕ, ◌+◌, ◌≤◌, ◌<◌}
 use native.Mathlib.Numerals.{add-one}
 use native.Mathlib.Omega.{arith}
 use lib.Dec.{eqb}
 use lib.ListN.{length, get_or, set, take, drop, take-append-drop, length-append, length-map, length-take, length-set}
 use lib.Seq.{take-suc, take_all, get_or-set_same}
-use borrow.Author.Tests.{eq-eqb, eqb-true, not-true, not-false}
+use borrow.Author.Tests.{eq-eqb, eqb-true}
 use Rattle.lists.specs.Below.{keep_if}
 use Rattle.lists.specs.Lists.{any_of, only, elem}
 use Rattle.lists.proofs.Bools.{clash, and_both, asked, implies, is_false, is_true}
-use Rattle.lists.proofs.Lists.{elem_at, elem_append, elem_snoc, elem_left, in_snoc, in_append}
+use Rattle.lists.proofs.Lists.{elem_at, elem_append, elem_left, in_snoc, in_append}
 use Rattle.lists.proofs.Below.{at_all}
 use Rattle.txset.specs.Sets.{positions, has_in}
 use Rattle.slotsets.specs.SlotSets.{capacity, set_words}
 use Rattle.pool_table.specs.Pool.{Pool, slot_count, occupied, entries}
-use Rattle.pool_table.specs.Links.{is_parent, itself, in_cluster}
+use Rattle.pool_table.specs.Links.{itself, in_cluster}
 use Rattle.pool_table.specs.WellFormed.{links_mutual, is_within, clusters_within}
 use Rattle.pool_links.proofs.Mutual.{occupied_in}
 use Rattle.pool_order.specs.Order.{slots_by_txid}

@@ -4,21 +4,18 @@ use mathlib.Core.Path.{◌≡◌, refl, sym, ap, ap₂, ◌∙◌}
 use mathlib.Core.Bool.{Bool, true, false, not, ◌&&◌, ◌||◌, and-false}
 use mathlib.Core.Logic.{⊎_elim}
 use mathlib.Core.List.{List, [], ◌∷◌, map, flatten}
-use Prim.Native.Nat.{ℕ, suc, ◌+◌, ◌≤◌, ◌<◌, ◌^◌}
+use Prim.Native.Nat.{ℕ, ◌≤◌, ◌<◌, ◌^◌}
 use native.Mathlib.Nat.{zero-add}
 use native.Mathlib.Omega.{arith}
 use lib.Dec.{eqb, ltb, leb}
 use lib.ListN.{length, get_or, length-map}
-use borrow.Author.Tests.{lt-ltb, le-ltb, ltb-true, leb-true, eq-eqb, eqb-true, not-true}
-use Rattle.lists.specs.Below.{count_from, list_from}
+use borrow.Author.Tests.{lt-ltb, le-ltb, leb-true, eq-eqb, eqb-true, not-true}
 use Rattle.lists.specs.Lists.{only, elem, distinct}
 use Rattle.lists.proofs.Bools.{clash, and_both, and_right, asked, is_false, true_together}
 use Rattle.lists.proofs.Numbers.{lt_or_ge}
 use Rattle.lists.proofs.Below.{all_at, count_ext}
 use Rattle.lists.proofs.Ranges.{list_below}
 use Rattle.lists.proofs.Lists.{Each, elem_head, elem_tail}
-use Rattle.lists.proofs.Once.{Once}
-use Rattle.txset.specs.declared.TxSet.{TxSet}
 use Rattle.txset.specs.Sets.{positions, mem, members, set_at}
 use Rattle.txset.proofs.Words.{has_in_low}
 use Rattle.txset.proofs.Sets.{mem_past, at_past}
@@ -27,7 +24,6 @@ use Rattle.slotsets.proofs.SlotSets.{has_word, word_fits}
 use Rattle.ways.specs.Ways.{Way, step, further, is_cyclic, Bounded}
 use Rattle.ways.proofs.Cycles.{no_way}
 use Rattle.depgraph.specs.Graph as graph
-use Rattle.depgraph.proofs.Parents.{among}
 use Rattle.depgraph.proofs.Theorems.{cyclic_is}
 use Rattle.pool_table.specs.Pool.{Pool, slot_count, is_occupied, occupied, entries}
 use Rattle.pool_table.specs.Ranges.{limits_in_range}

@@ -1,6 +1,6 @@
 -- Document 01, module 8: "A cluster's positions are its members by txid." The clusters of a pool in that form, which modules 4 to 7 take.
 -- Assumes nothing.
-use Rattle.std.specs.Prelude.{ℕ, Bool, ◌&&◌, List, map, eqb, ltb, length, get_or}
+use Rattle.std.specs.Prelude.{ℕ, ◌&&◌, List, map, eqb, ltb, length, get_or}
 use Rattle.lists.specs.Lists.{only}
 use Rattle.txset.specs.Sets.{positions}
 use Rattle.slotsets.specs.SlotSets.{word_of}

@@ -7,7 +7,6 @@ use native.Mathlib.Omega.{arith}
 use lib.ListN.{length, take}
 use lib.Seq.{length-take-le}
 use lib.IntN.{ℤ}
-use borrow.Author.Rules.{rules}
 use Rattle.refusals.specs.Refusals.{answer_of}
 use Rattle.pool_table.specs.Pool.{Pool, slot_count}
 use Rattle.pool_table.specs.Words.{pool_of}
@@ -24,8 +23,8 @@ use Rattle.pool_chunks.proofs.all_chunks.Goals.{After-cut_all-count, After-lay_o
 
 -- ---- the rooms
 
-pub returns-then-fees-slots : goal.returns-then-fees-slots
-returns-then-fees-slots c = let args = c.args in
+pub returns-then-fees-slots-clause-answer_value : goal.returns-then-fees-slots-clause-answer_value
+returns-then-fees-slots-clause-answer_value c = let args = c.args in
     let t = args.table.now in
     let one = length args.fees.now ∷ [] in
     let eight =
@@ -38,11 +37,8 @@ returns-then-fees-slots c = let args = c.args in
     ∷ length args.ups.now
     ∷ length args.sizes.now
     ∷ [] in
-    let short : length args.fees.now ≤ slot_count (pool_of t) = omega (arith, c.if-fees-slots.true, c.slots.ensures) in record {
-      answer_value =
-          not_stood (stands_in t (length args.fees.now ∷ eight)) t args.deltas.now (sym (stands_short t one eight (sym (roomy_not [] short))));
-      sorted = λ e. absurd (omega (arith, e));
-    }
+    let short : length args.fees.now ≤ slot_count (pool_of t) = omega (arith, c.if-fees-slots.true, c.slots.ensures) in
+    not_stood (stands_in t (length args.fees.now ∷ eight)) t args.deltas.now (sym (stands_short t one eight (sym (roomy_not [] short))))
 
 -- ---- the layout
 

@@ -5,7 +5,6 @@ use mathlib.Core.List.{List}
 use Prim.Native.Nat.{ℕ, ◌+◌, ◌-◌, ◌≤◌, ◌<◌}
 use native.Mathlib.Omega.{arith}
 use lib.ListN.{length, get_or, take, drop, length-set}
-use borrow.Author.Rules.{rules}
 use Rattle.txset.specs.Sets.{has_in}
 use Rattle.txset.proofs.Words.{has_in_zeros}
 use Rattle.slotsets.specs.SlotSets.{capacity}
@@ -21,7 +20,7 @@ use Rattle.pool_members.specs.Steps.{StoredAt, Closed}
 use Rattle.pool_members.proofs.Members.{within_few}
 use Rattle.pool_members.proofs.Rows.{row_lent, back_long, row_long, row_kept, row_here}
 use Rattle.pool_members.proofs.Laid.{few}
-use Rattle.pool_members.proofs.Laying.{laid, Laying, members_closed, laying_start, laying_taken, laying_skip, laying_room, laying_few, laying_bound}
+use Rattle.pool_members.proofs.Laying.{members_closed, laying_start, laying_taken, laying_skip, laying_room, laying_few, laying_bound}
 use Rattle.pool_members.proofs.Laying.{laying_more, laying_within, laying_done}
 use Rattle.pool_members.proofs.lay_by_txid.Goals as goal
 use Rattle.pool_members.proofs.lay_by_txid.Goals.{Else-k-eq0, In-loop-i}

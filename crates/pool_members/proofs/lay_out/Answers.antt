@@ -5,15 +5,14 @@ use mathlib.Core.Bool.{Bool, true, ◌&&◌, false≢true}
 use mathlib.Core.List.{List, [], ◌∷◌, ◌++◌}
 use Prim.Native.Nat.{ℕ, ◌≤◌, ◌<◌}
 use native.Mathlib.Omega.{arith}
-use lib.ListN.{length, get_or, take, length-take, length-set}
+use lib.ListN.{length, get_or, length-take, length-set}
 use lib.Seq.{length-take-le, get_or-set_same}
-use borrow.Author.Rules.{rules}
 use borrow.Author.Tests.{not-true, not-false}
 use Rattle.lists.specs.Lists.{distinct}
 use Rattle.pool_table.specs.Pool.{slot_count}
 use Rattle.pool_table.specs.Words.{pool_of}
 use Rattle.pool_table.specs.WellFormed.{clusters_within}
-use Rattle.pool_order.specs.Order.{slots_by_txid, roomy, stands_in}
+use Rattle.pool_order.specs.Order.{roomy, stands_in}
 use Rattle.pool_order.specs.Packed.{Standing}
 use Rattle.pool_order.proofs.Slots.{roomy_both}
 use Rattle.pool_order.proofs.Theorems.{slots_once}
@@ -156,10 +155,20 @@ slice_bounds-unpack_all-end c = let d = (goal.at.slice_bounds-unpack_all-end c).
     let st = not-false c.sort_linked-sorted.result.stands c.if-not-sorted.false in
     omega (arith, few d st, in_ups d st)
 
+pub slice_bounds-unpack_all-end-2 : goal.slice_bounds-unpack_all-end-2
+slice_bounds-unpack_all-end-2 c = let d = (goal.at.slice_bounds-unpack_all-end-2 c).After-sort_linked-sorted in
+    let st = not-false c.sort_linked-sorted.result.stands c.if-not-sorted.false in
+    sym (length-take-le _ _ (omega (arith, few d st, in_ups d st)))
+
 pub slice_bounds-rank_all-end : goal.slice_bounds-rank_all-end
 slice_bounds-rank_all-end c = let d = (goal.at.slice_bounds-rank_all-end c).After-sort_linked-sorted in
     let st = not-false c.sort_linked-sorted.result.stands c.if-not-sorted.false in
     omega (arith, few d st, (rooms d st).3, c.unpack_all.auto.order)
+
+pub slice_bounds-rank_all-end-2 : goal.slice_bounds-rank_all-end-2
+slice_bounds-rank_all-end-2 c = let d = (goal.at.slice_bounds-rank_all-end-2 c).After-sort_linked-sorted in
+    let st = not-false c.sort_linked-sorted.result.stands c.if-not-sorted.false in
+    sym (length-take-le _ _ (omega (arith, few d st, (rooms d st).3, c.unpack_all.auto.order)))
 
 pub bounds-bounds-0 : goal.bounds-bounds-0
 bounds-bounds-0 c = let d = (goal.at.bounds-bounds-0 c).After-sort_linked-sorted in
@@ -169,6 +178,11 @@ pub slice_bounds-lay_by_txid-end : goal.slice_bounds-lay_by_txid-end
 slice_bounds-lay_by_txid-end c = let d = (goal.at.slice_bounds-lay_by_txid-end c).After-sort_linked-sorted in
     let st = not-false c.sort_linked-sorted.result.stands c.if-not-sorted.false in
     omega (arith, few d st, (rooms d st).3, c.unpack_all.auto.order)
+
+pub slice_bounds-lay_by_txid-end-2 : goal.slice_bounds-lay_by_txid-end-2
+slice_bounds-lay_by_txid-end-2 c = let d = (goal.at.slice_bounds-lay_by_txid-end-2 c).After-sort_linked-sorted in
+    let st = not-false c.sort_linked-sorted.result.stands c.if-not-sorted.false in
+    sym (length-take-le _ _ (omega (arith, few d st, (rooms d st).3, c.unpack_all.auto.order)))
 
 pub shape_of-bounds : goal.shape_of-bounds
 shape_of-bounds c = c.lay_by_txid.auto.bounds ∙ length-set c.args.bounds.now 0 0

@@ -1,11 +1,10 @@
-use Prim.Native.Nat.{ℕ, ◌+◌, ◌-◌, ◌≤◌, ◌<◌}
+use Prim.Native.Nat.{ℕ, ◌+◌, ◌≤◌, ◌<◌}
 use native.Mathlib.Omega.{arith}
-use mathlib.Core.Path.{◌≡◌, sym, ◌∙◌}
+use mathlib.Core.Path.{◌≡◌, ◌∙◌}
 use mathlib.Core.Bool.{false}
 use mathlib.Core.List.{List, map}
 use lib.ListN.{length, get_or, length-set}
 use lib.IntN.{ℤ}
-use borrow.Author.Rules.{rules}
 use Rattle.depgraph.specs.Graph.{is_cyclic}
 use Rattle.pool_table.specs.Pool.{Pool, slot_count}
 use Rattle.pool_table.specs.Words.{pool_of}

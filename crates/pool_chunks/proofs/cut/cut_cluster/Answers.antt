@@ -4,11 +4,9 @@ use mathlib.Core.Path.{◌≡◌, refl, sym, ap, ◌∙◌}
 use mathlib.Core.List.{List, map}
 use lib.ListN.{length, take, get_or, length-map}
 use lib.IntN.{ℤ}
-use borrow.Author.Rules.{rules}
 use Rattle.pool_table.specs.Pool.{Pool}
 use Rattle.pool_table.specs.Words.{pool_of}
 use Rattle.pool_chunks.specs.Chunks.{fees_of, sizes_of}
-use Rattle.pool_chunks.specs.Steps.{Cuttable}
 use Rattle.pool_chunks.proofs.OneCluster.{front_is, alone_written, answered, Ordered, ordered, ordered_long, ordered_many, ordered_few}
 use Rattle.pool_chunks.proofs.OneCluster.{ordered_below, ordered_fits, ordered_whole, ordered_written}
 use Rattle.pool_chunks.proofs.cut.cut_cluster.Goals as goal

@@ -1,8 +1,5 @@
-use Prim.Native.Nat.{◌-◌}
 use native.Mathlib.Omega.{arith}
-use lib.ListN.{length, get_or}
-use borrow.Author.Rules.{rules}
-use Rattle.pool_order.proofs.Filling.{Copied, copied_start, copied_within, copied_more, copied_done}
+use Rattle.pool_order.proofs.Filling.{copied_start, copied_within, copied_more, copied_done}
 use Rattle.pool_chunks.proofs.cut.gather_parents.Goals as goal
 
 pub loop-i-init : goal.loop-i-init

@@ -1,12 +1,7 @@
-use Prim.Native.Nat.{◌-◌}
 use mathlib.Core.Path.{ap}
-use lib.ListN.{length}
-use borrow.Author.Rules.{rules}
-use Rattle.pool_table.specs.Words.{pool_of}
-use Rattle.pool_order.proofs.Filling.{Copied, copied_start, copied_done}
+use Rattle.pool_order.proofs.Filling.{copied_start, copied_done}
 use Rattle.feefrac.specs.declared.FeeFrac.{FeeFrac}
 use Rattle.pool_chunks.proofs.Writing.{copied_put}
-use Rattle.pool_chunks.specs.Chunks.{fee_of, size_of}
 use Rattle.pool_chunks.proofs.cut.gather_rates.Goals as goal
 
 pub loop-i-init : goal.loop-i-init

@@ -2,7 +2,6 @@ use native.Mathlib.Omega.{arith}
 use mathlib.Core.Path.{sym}
 use lib.Seq.{length-take-le}
 use Rattle.pool_chunks.proofs.Ordered.{calls_cut}
-use borrow.Author.Rules.{rules}
 use Rattle.pool_chunks.proofs.cut.order_cluster.Goals as goal
 
 pub slice_bounds-order_lengths-end-2 : goal.slice_bounds-order_lengths-end-2

@@ -1,7 +1,5 @@
-use Prim.Native.Nat.{◌-◌}
-use lib.ListN.{length}
 use borrow.Author.Rules.{rules}
-use Rattle.pool_chunks.proofs.Writing.{Ending, ending_start, ending_fits, ending_within, ending_turn, ending_done}
+use Rattle.pool_chunks.proofs.Writing.{ending_start, ending_fits, ending_within, ending_turn, ending_done}
 use Rattle.pool_chunks.proofs.cut.put_ends.Goals as goal
 
 pub loop-k-init : goal.loop-k-init

@@ -1,7 +1,6 @@
 use Prim.Native.Nat.{◌-◌}
 use lib.ListN.{length}
-use borrow.Author.Rules.{rules}
-use Rattle.pool_chunks.proofs.Writing.{Ending, ending_start, ending_fits, ending_within, ending_turn, ending_done}
+use Rattle.pool_chunks.proofs.Writing.{Ending}
 use Rattle.pool_chunks.proofs.cut.put_ends.Given as goal
 
 abbrev pub invariant-loop-k : goal.invariant-loop-k

@@ -1,7 +1,7 @@
-use Prim.Native.Nat.{◌+◌, ◌-◌, ◌≤◌}
+use Prim.Native.Nat.{◌+◌, ◌≤◌}
 use lib.ListN.{length, get_or}
 use borrow.Author.Rules.{rules}
-use Rattle.pool_chunks.proofs.Writing.{Summing, summing_start, summing_fits, summing_turn, summing_done}
+use Rattle.pool_chunks.proofs.Writing.{summing_start, summing_fits, summing_turn, summing_done}
 use Rattle.pool_chunks.proofs.cut.put_rates.Goals as goal
 use Rattle.pool_chunks.proofs.cut.put_rates.Goals.{In-loop-k}
 

@@ -1,7 +1,6 @@
-use Prim.Native.Nat.{◌+◌, ◌-◌, ◌≤◌}
-use lib.ListN.{length, get_or}
-use borrow.Author.Rules.{rules}
-use Rattle.pool_chunks.proofs.Writing.{Summing, summing_start, summing_fits, summing_turn, summing_done}
+use Prim.Native.Nat.{◌-◌}
+use lib.ListN.{length}
+use Rattle.pool_chunks.proofs.Writing.{Summing}
 use Rattle.pool_chunks.proofs.cut.put_rates.Given as goal
 
 abbrev pub invariant-loop-k : goal.invariant-loop-k

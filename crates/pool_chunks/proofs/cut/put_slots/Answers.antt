@@ -1,7 +1,5 @@
-use Prim.Native.Nat.{◌-◌}
-use lib.ListN.{length, get_or}
 use borrow.Author.Rules.{rules}
-use Rattle.pool_order.proofs.Filling.{Copied, copied_start, copied_within, copied_more, copied_done}
+use Rattle.pool_order.proofs.Filling.{copied_start, copied_within, copied_more, copied_done}
 use Rattle.pool_chunks.proofs.cut.put_slots.Goals as goal
 
 pub loop-k-init : goal.loop-k-init

@@ -1,7 +1,6 @@
 use Prim.Native.Nat.{◌-◌}
 use lib.ListN.{length, get_or}
-use borrow.Author.Rules.{rules}
-use Rattle.pool_order.proofs.Filling.{Copied, copied_start, copied_within, copied_more, copied_done}
+use Rattle.pool_order.proofs.Filling.{Copied}
 use Rattle.pool_chunks.proofs.cut.put_slots.Given as goal
 
 abbrev pub invariant-loop-k : goal.invariant-loop-k

@@ -3,8 +3,6 @@ use Prim.Native.Nat.{ℕ, ◌≤◌}
 use lib.IntN.{ℤ, ◌+ℤ◌}
 use lib.ListN.{get_or}
 use lib.IntN.{pos}
-use mir.Syntax.{w64}
-use mir.Val.{SFits}
 use borrow.Author.Rules.{rules}
 use Rattle.feefrac.specs.declared.FeeFrac.{FeeFrac}
 use Rattle.weights.specs.declared.AdjustedWeight.{AdjustedWeight}

@@ -1,14 +1,12 @@
 -- `note_all`: the first k members have their notes. Assumes nothing.
 use mathlib.Core.Path.{refl}
-use Prim.Native.Nat.{ℕ, ◌-◌, ◌<◌}
+use Prim.Native.Nat.{ℕ, ◌<◌}
 use native.Mathlib.Omega.{arith}
 use lib.ListN.{length, get_or}
-use borrow.Author.Rules.{rules}
 use Rattle.lists.proofs.Lists.{elem_at}
 use Rattle.pool_table.specs.Pool.{slot_count}
 use Rattle.pool_table.specs.Words.{pool_of}
-use Rattle.pool_members.specs.Members.{parents_of}
-use Rattle.pool_members.proofs.Stored.{Storing, storing_start, storing_within, storing_more, storing_done}
+use Rattle.pool_members.proofs.Stored.{storing_start, storing_within, storing_more, storing_done}
 use Rattle.pool_members.proofs.Laid.{parent_in, parents_word}
 use Rattle.pool_members.proofs.parents.note_all.Goals as goal
 use Rattle.pool_members.proofs.parents.note_all.Goals.{Start}

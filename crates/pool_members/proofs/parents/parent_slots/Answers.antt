@@ -1,12 +1,11 @@
 -- `parent_slots`: the first j words are those of the parents. Assumes nothing.
 use mathlib.Core.Path.{sym, ap, ◌∙◌}
-use Prim.Native.Nat.{ℕ, ◌-◌}
+use Prim.Native.Nat.{ℕ}
 use native.Mathlib.Omega.{arith}
-use borrow.Author.Rules.{rules}
-use Rattle.txset.specs.Sets.{has, has_in}
+use Rattle.txset.specs.Sets.{has}
 use Rattle.txset.proofs.Words.{has_in_zeros}
 use Rattle.slotsets.proofs.SlotSets.{set_past}
-use Rattle.slotsets.proofs.Words.{Upto, upto_start, upto_turn, upto_done, word_in}
+use Rattle.slotsets.proofs.Words.{upto_start, upto_turn, upto_done, word_in}
 use Rattle.pool_table.specs.Pool.{slot_at}
 use Rattle.pool_table.specs.Words.{pool_of}
 use Rattle.pool_table.proofs.Rows.{whole_slot}

@@ -1,14 +1,8 @@
-use mathlib.Core.Path.{sym, ap, ◌∙◌}
-use Prim.Native.Nat.{ℕ, ◌-◌}
-use native.Mathlib.Omega.{arith}
-use borrow.Author.Rules.{rules}
-use Rattle.txset.specs.Sets.{has, has_in}
-use Rattle.txset.proofs.Words.{has_in_zeros}
-use Rattle.slotsets.proofs.SlotSets.{set_past}
-use Rattle.slotsets.proofs.Words.{Upto, upto_start, upto_turn, upto_done, word_in}
+use Prim.Native.Nat.{◌-◌}
+use Rattle.txset.specs.Sets.{has_in}
+use Rattle.slotsets.proofs.Words.{Upto}
 use Rattle.pool_table.specs.Pool.{slot_at}
 use Rattle.pool_table.specs.Words.{pool_of}
-use Rattle.pool_table.proofs.Rows.{whole_slot}
 use Rattle.pool_members.proofs.parents.parent_slots.Given as goal
 
 abbrev pub invariant-loop-j : goal.invariant-loop-j

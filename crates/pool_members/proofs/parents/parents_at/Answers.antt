@@ -1,16 +1,10 @@
 -- `parents_at`: the places that were put, and those of the parents that are left, are all. Assumes nothing.
-use mathlib.Core.Path.{◌≡◌, sym, ap, ◌∙◌}
+use mathlib.Core.Path.{sym, ap, ◌∙◌}
 use mathlib.Core.Bool.{Bool, ◌&&◌}
-use Prim.Native.Nat.{ℕ}
-use native.Mathlib.Omega.{arith}
-use lib.ListN.{length}
 use borrow.Author.Rules.{rules}
-use Rattle.lists.specs.Below.{count_from}
 use Rattle.lists.proofs.Bools.{and_left}
-use Rattle.txset.specs.Sets.{mem, is_position, has_in, positions}
-use Rattle.slotsets.specs.SlotSets.{capacity, set_words}
-use Rattle.pool_members.specs.Steps.{Within}
-use Rattle.pool_members.proofs.Ranks.{Ranking, rank_ext, ranking_start, ranking_done, ranking_turn, lowest_here, lowest_less}
+use Rattle.txset.specs.Sets.{mem, is_position, positions}
+use Rattle.pool_members.proofs.Ranks.{rank_ext, ranking_start, ranking_done, ranking_turn, lowest_here, lowest_less}
 use Rattle.pool_members.proofs.parents.parents_at.Goals as goal
 
 pub loop-left-init : goal.loop-left-init
