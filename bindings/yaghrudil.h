@@ -2,7 +2,7 @@
  * Yaghrudil for C: the order in which a cluster of transactions should be mined, the chunks of it that belong together, a pool of
  * transactions in memory that the caller lends, and block templates out of it.
  *
- * Link with libyaghrudil.a, which `rt lib`, run in crates/yaghrudil, writes to out/ there for x86-64.
+ * Link with libyaghrudil.a, which `rt lib`, run in crates/yaghrudil, writes to out/ there for x86-64 (x86-64-v2).
  *
  * What is lent
  *

@@ -1,4 +1,4 @@
--- The limits that `add` tests in a well_formed_lem pool: its weights are small, so that no sum of them passes a word, and what the search for
+-- The limits that `add` tests in a well-formed pool: its weights are small, so that no sum of them passes a word, and what the search for
 -- the parents' clusters counts and weighs is what document 01 asks for. Assumes nothing.
 use mathlib.Core.Path.{◌≡◌, refl, sym, ap, ap₂, ◌∙◌}
 use mathlib.Core.Bool.{Bool, true, false, cond, ◌&&◌}

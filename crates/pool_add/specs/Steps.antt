@@ -1,4 +1,4 @@
--- How `add` writes, step by step. That a well_formed_lem pool comes to be `added` of pool_rules by these steps is a law
+-- How `add` writes, step by step. That a well-formed pool comes to be `added` of pool_rules by these steps is a law
 -- (proofs/Written.antt). Assumes nothing.
 use Rattle.std.specs.Prelude.{ℕ, zero, suc, ◌+◌, Bool, cond}
 use Rattle.pool_table.specs.declared.Entry.{Entry}

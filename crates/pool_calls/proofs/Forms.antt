@@ -1,4 +1,4 @@
--- What a well_formed_lem table gives the calls, and what the look-up tells. Assumes nothing.
+-- What a well-formed table gives the calls, and what the look-up tells. Assumes nothing.
 use mathlib.Core.Path.{◌≡◌, refl, sym, ap}
 use mathlib.Core.Bool.{Bool, true, false, cond, not}
 use mathlib.Core.Logic.{⊎_elim}
@@ -21,7 +21,7 @@ use Rattle.pool_rules.specs.Module8.{is_in, slot_of, cleared}
 use Rattle.pool_rules.specs.Calls.{placed, no_slot, broken, clear_answer, after_clear}
 use Rattle.pool_calls.specs.Steps.{Takable}
 
--- ---- a well_formed_lem table
+-- ---- a well-formed table
 
 -- one weight of a sum
 in_sum : (w : ℕ → ℕ) (k i s : ℕ) → i ≤ s → s < i + k → w s ≤ sum_from w (λ j. true) k i

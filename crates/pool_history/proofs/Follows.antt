@@ -1,4 +1,4 @@
--- After any sequence of calls the table is well_formed_lem, and the account of its events is right. Assumes nothing.
+-- After any sequence of calls the table is well-formed, and the account of its events is right. Assumes nothing.
 use mathlib.Core.Path.{◌≡◌, sym, ap, ◌∙◌}
 use mathlib.Core.Bool.{true}
 use mathlib.Core.List.{List, [], ◌∷◌}

@@ -1,4 +1,4 @@
--- What every call keeps of a pool, and the tables that mean such a pool: the well_formed_lem ones. Assumes nothing.
+-- What every call keeps of a pool, and the tables that mean such a pool: the well-formed ones. Assumes nothing.
 use mathlib.Core.Path.{◌≡◌, ap, ap₂, ◌∙◌}
 use mathlib.Core.Bool.{true, ◌&&◌}
 use mathlib.Core.List.{List}

@@ -61,7 +61,7 @@ module _ {p : Pool} (k : Kept p) where
   pub within_size : (a : ℕ) → occupied p a ≡ true → virtual_size (weight_of p (in_cluster p a)) ≤ p.limits.size
   within_size a o = leb-true (virtual_size (weight_of p (in_cluster p a))) p.limits.size (both_limits a o).1
 
--- ---- "So no later call finds the pool ill-formed": a well_formed_lem table is one after any call, refused or not
+-- ---- "So no later call finds the pool ill-formed": a well-formed table is one after any call, refused or not
 
 module _ (t : List ℕ) where
   made_well : (l : Limits) → answer_of (make_refusals t l) ≡ 0 → well_formed (table_of (made l (slots_in (length t)))) ≡ true

@@ -1,4 +1,4 @@
--- What the steps of laying out give in a well_formed_lem table: the slots of a cluster's ranks are its members by txid, and the places of a
+-- What the steps of laying out give in a well-formed table: the slots of a cluster's ranks are its members by txid, and the places of a
 -- member's parents are the word of its parents. Assumes nothing.
 use mathlib.Core.Path.{◌≡◌, sym, ap, ◌∙◌}
 use mathlib.Core.Bool.{Bool, true, false, ◌&&◌}

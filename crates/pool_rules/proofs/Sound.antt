@@ -1,4 +1,4 @@
--- A well_formed_lem table, part by part, and a free slot of a sound pool. Assumes nothing.
+-- A well-formed table, part by part, and a free slot of a sound pool. Assumes nothing.
 use mathlib.Core.Path.{◌≡◌, refl, sym, ap, ◌∙◌}
 use mathlib.Core.Bool.{Bool, true, false, ◌||◌}
 use mathlib.Core.List.{List}

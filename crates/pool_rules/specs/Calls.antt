@@ -36,7 +36,7 @@ placed_of Nothing = no_slot 10
 abbrev pub entry_of : List ℕ → ℕ → ℕ → ℕ → Entry
 entry_of bytes fee weight cost = record { txid = txid_at bytes 0; fee = fee; weight = record { 0 = weight }; cost = cost }
 
--- 12: the table is not well_formed_lem
+-- 12: the table is not well-formed
 abbrev pub broken : List ℕ → Line
 broken t = line 12 (not (well_formed t))
 

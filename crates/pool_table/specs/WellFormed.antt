@@ -1,5 +1,5 @@
 -- Document 01, refusal 12: "the table breaks demand 3's structure, a range (slots and limits too), distinct txids, the stored total as the
--- sum of weights, or zeroed free slots". A table is well_formed_lem where each of the parts below holds. Assumes nothing.
+-- sum of weights, or zeroed free slots". A table is well-formed where each of the parts below holds. Assumes nothing.
 use Rattle.std.specs.Prelude.{ℕ, Bool, true, not, ◌&&◌, ◌||◌, List, eqb, leb, length}
 use Rattle.lists.specs.Below.{all_from}
 use Rattle.lists.specs.Lists.{all_of}

@@ -156,7 +156,7 @@ module _ (t : List ℕ) (w : Settings) (room : List ℕ) {k : ℕ} (e : k ≡ an
       ∙ ap (λ (b : Bool). from_one b bad) q.1
       ∙ ap from_three q.3
 
--- ---- a table that is well_formed_lem
+-- ---- a table that is well-formed
 
 module _ (t : List ℕ) (h : well_formed t ≡ true) where
   its_sound : sound (pool_of t) ≡ true
@@ -170,7 +170,7 @@ module _ (t : List ℕ) (h : well_formed t ≡ true) where
   pub template_fits : (w : Settings) → length (template (pool_of t) w) ≤ entries (pool_of t)
   template_fits w = template_few (pool_of t) its_sound (few_slots t (well_legal t h)) w
 
--- rooms that are wide enough where the table is well_formed_lem
+-- rooms that are wide enough where the table is well-formed
 pub stands_wide : (t rooms : List ℕ) → Wide t rooms → stands_in t rooms ≡ well_formed t
 unfolding stands_in
 stands_wide t rooms h = asked (roomy (slot_count (pool_of t)) rooms) (well_formed t) h

@@ -62,6 +62,6 @@ pub record Filled (out picked : List ℕ) (n : ℕ) : Type 0 where
 
 -- ---- the call
 
--- rooms of these lengths have a place for each slot of a table that is well_formed_lem, and one more
+-- rooms of these lengths have a place for each slot of a table that is well-formed, and one more
 abbrev pub Wide : List ℕ → List ℕ → Type 0
 Wide t rooms = well_formed t ≡ true → roomy (slot_count (pool_of t)) rooms ≡ true
