@@ -1,8 +1,8 @@
 -- From what was read of a line to what the line asks for. Assumes nothing.
-use mathlib.Core.Path.{◌≡◌, refl, sym, ap, ap₂, ◌∙◌}
-use mathlib.Core.Bool.{Bool, true, false, cond, ◌&&◌, and-false}
+use mathlib.Core.Path.{◌≡◌, refl, sym, ap, ◌∙◌}
+use mathlib.Core.Bool.{true, false, ◌&&◌, and-false}
 use mathlib.Core.List.{List, [], ◌∷◌, ◌++◌}
-use Prim.Native.Nat.{ℕ, zero, suc, ◌+◌, ◌≤◌, ◌<◌}
+use Prim.Native.Nat.{ℕ, ◌+◌, ◌≤◌, ◌<◌}
 use native.Mathlib.Nat.{zero-add}
 use native.Mathlib.Omega.{arith}
 use lib.Dec.{eqb, leb}
@@ -12,7 +12,7 @@ use borrow.Author.Tests.{le-leb, lt-leb, eq-eqb, ne_eqb, eqb-true, eqb-false}
 use Rattle.lists.proofs.Bools.{cases, and_both}
 use Rattle.lists.specs.Lists.{all_of, same}
 use Rattle.texts.specs.declared.numerals.Signed.TheVariants as signed
-use Rattle.texts.specs.Numerals.{number_of, is_number, are_numbers, signed_of}
+use Rattle.texts.specs.Numerals.{are_numbers, signed_of}
 use Rattle.texts.specs.Places.{before, place_of, split}
 use Rattle.texts.proofs.Places.{before_take}
 use Rattle.texts.specs.Hex.{is_hex64, hex_bytes}
@@ -22,7 +22,7 @@ use Rattle.pool_reader.specs.Requests.{Request, make, add, remove, set_cost, cle
 use Rattle.pool_reader.specs.Requests.{numbers_in, are_txids, bytes_in, longest_line, request_of, by_word, by_plain_word}
 use Rattle.pool_reader.specs.Requests.{make_word, clear_word, totals_word, delta_word, mark_word, template_word, add_word, remove_word, set_cost_word}
 use Rattle.pool_reader.specs.Requests.{as_add, as_remove, as_set_cost, as_make, as_alone, as_delta, as_mark, as_template}
-use Rattle.pool_reader.specs.Steps.{words_at, Place, start_numbers, starts_txid, Numbers, TxidTo, Txids}
+use Rattle.pool_reader.specs.Steps.{words_at, Place, start_numbers, starts_txid}
 use Rattle.pool_reader.proofs.Reading.{words_none, words_next}
 
 -- ---- the line

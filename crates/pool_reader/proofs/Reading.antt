@@ -3,22 +3,21 @@ use mathlib.Core.Path.{◌≡◌, refl, sym, ap, ◌∙◌, subst}
 use mathlib.Core.Bool.{Bool, true, false, cond, ◌&&◌, and-false}
 use mathlib.Core.Logic.{⊎_elim}
 use mathlib.Core.List.{List, [], ◌∷◌, ◌++◌, append-nil, append_assoc}
-use Prim.Native.Nat.{ℕ, zero, suc, ◌+◌, ◌-◌, ◌*◌, ◌≤◌, ◌<◌}
+use Prim.Native.Nat.{ℕ, suc, ◌+◌, ◌-◌, ◌*◌, ◌≤◌, ◌<◌}
 use native.Mathlib.Nat.{zero-add, suc-add}
 use native.Mathlib.Numerals.{add-one}
 use native.Mathlib.Omega.{arith}
-use lib.Dec.{eqb, leb}
+use lib.Dec.{eqb}
 use lib.ListN.{length, get_or, take, drop, set, length-set, length-append, drop_of_length-le}
 use lib.Seq.{drop-cons, take-suc-set, take_all}
 use borrow.Author.Tests.{le-leb, lt-leb, eq-eqb, ne_eqb, eqb-true}
 use Rattle.lists.specs.Lists.{all_of, same}
-use Rattle.lists.proofs.Bools.{clash, cases, and_left, and_right, and_both}
+use Rattle.lists.proofs.Bools.{clash, cases, and_left, and_both}
 use Rattle.lists.proofs.Lists.{all_append}
 use Rattle.lists.proofs.Numbers.{lt_or_ge}
-use Rattle.texts.specs.declared.numerals.Number.{Number}
 use Rattle.texts.specs.declared.numerals.Number.TheVariants.{Value, Malformed}
 use Rattle.texts.specs.Numerals.{number_of, is_number, number_in, are_numbers}
-use Rattle.texts.specs.Places.{before, place_of, split}
+use Rattle.texts.specs.Places.{before, place_of}
 use Rattle.texts.specs.Hex.{is_hex_digit, is_hex64, hex_bytes}
 use Rattle.texts.specs.Rooms.{fits, written_at, Room, Wrote}
 use Rattle.texts.proofs.Places.{place_le, split_last, split_more}
