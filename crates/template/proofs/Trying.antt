@@ -23,7 +23,6 @@ use Rattle.template_rules.specs.Filling.{Settings, grown, addition, number_of, r
 use Rattle.template_rules.specs.Filling as rules
 use Rattle.template_rules.proofs.Collect.{grown_is}
 use Rattle.template.specs.declared.tests.Used.{Used}
-use Rattle.template.specs.declared.tests.Outcome.{Outcome}
 use Rattle.template.specs.declared.tests.Outcome.TheVariants.{Taken, Passed}
 use Rattle.template.proofs.Collecting.{chosen_few}
 use Rattle.template.specs.Selecting.{Occupied, Selected}

@@ -1,13 +1,9 @@
-use mathlib.Core.Path.{◌≡◌, refl, sym, ◌∙◌}
-use Prim.Native.Nat.{ℕ, ◌+◌, ◌-◌, ◌≤◌, ◌<◌}
-use native.Mathlib.Omega.{arith}
-use lib.ListN.{length, get_or}
-use borrow.Author.Rules.{rules}
-use Rattle.pool_table.specs.Pool.{Pool, slot_count}
+use mathlib.Core.Path.{◌≡◌}
+use Prim.Native.Nat.{◌-◌}
+use lib.ListN.{length}
 use Rattle.pool_table.specs.Words.{pool_of}
-use Rattle.pool_chunks.specs.Sorted.{Arrays, arrays}
-use Rattle.template.proofs.Going.{numbers_long, starts_rise, starts_within, starts_few, slots_held}
-use Rattle.template.proofs.Going.{Going, going_start, going_taken, going_passed, going_done}
+use Rattle.pool_chunks.specs.Sorted.{arrays}
+use Rattle.template.proofs.Going.{Going}
 use Rattle.template.proofs.fill.Given as goal
 
 abbrev pub invariant-loop-k : goal.invariant-loop-k

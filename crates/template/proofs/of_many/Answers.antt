@@ -1,5 +1,4 @@
 -- `of_many`: its arrays are long enough for every table that is well-formed. Assumes nothing.
-use borrow.Author.Rules.{rules}
 use Rattle.template.proofs.Answers.{nine_wide, slots_few}
 use Rattle.template.proofs.of_many.Goals as goal
 

@@ -1,10 +1,9 @@
 -- `template`: the arrays are made for the slots that the table has. Assumes nothing.
 use native.Mathlib.Omega.{arith}
-use borrow.Author.Rules.{rules}
 use Rattle.template.proofs.template.Goals as goal
 
 pub of_few-requires : goal.of_few-requires
-of_few-requires c = let then = c.before in omega (arith, then.if-slots-le-FEW.true, then.slots.ensures)
+of_few-requires c = omega (arith, c.if-slots-le-FEW.true, c.slots.ensures)
 
 pub returns-then-slots-le-FEW : goal.returns-then-slots-le-FEW
 returns-then-slots-le-FEW c = c.of_few.ensures

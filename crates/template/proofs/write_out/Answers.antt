@@ -1,8 +1,5 @@
 -- `write_out`: the first i places of the room hold the first i of `picked`. Assumes nothing.
-use Prim.Native.Nat.{◌-◌}
-use borrow.Author.Rules.{rules}
-use lib.ListN.{length}
-use Rattle.pool_order.proofs.Filling.{Copied, copied_start, copied_within, copied_more, copied_whole}
+use Rattle.pool_order.proofs.Filling.{copied_start, copied_within, copied_more, copied_whole}
 use Rattle.template.proofs.write_out.Goals as goal
 
 pub loop-i-init : goal.loop-i-init

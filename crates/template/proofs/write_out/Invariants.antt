@@ -1,7 +1,6 @@
 use Prim.Native.Nat.{◌-◌}
-use borrow.Author.Rules.{rules}
 use lib.ListN.{length}
-use Rattle.pool_order.proofs.Filling.{Copied, copied_start, copied_within, copied_more, copied_whole}
+use Rattle.pool_order.proofs.Filling.{Copied}
 use Rattle.template.proofs.write_out.Given as goal
 
 abbrev pub invariant-loop-i : goal.invariant-loop-i

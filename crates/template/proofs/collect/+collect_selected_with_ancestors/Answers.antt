@@ -3,7 +3,7 @@ use mathlib.Core.Path.{◌≡◌, refl, sym, subst, ◌∙◌}
 use mathlib.Core.Bool.{true, false}
 use Prim.Native.Nat.{ℕ, ◌+◌, ◌≤◌, ◌<◌}
 use native.Mathlib.Omega.{arith}
-use lib.ListN.{get_or, take, length, length-set}
+use lib.ListN.{get_or, length, length-set}
 use borrow.Author.Rules.{rules}
 use Rattle.txset.specs.Sets.{has_in, is_empty}
 use Rattle.txset.proofs.Walk.{walk_less}

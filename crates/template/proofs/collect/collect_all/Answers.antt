@@ -1,11 +1,8 @@
 -- `collect_all`: the first i slots are selected, each behind its ancestors. Assumes nothing.
-use mathlib.Core.Path.{◌≡◌, refl, sym, ◌∙◌}
-use Prim.Native.Nat.{◌-◌}
-use lib.ListN.{length, get_or, take}
-use borrow.Author.Rules.{rules}
+use mathlib.Core.Path.{refl, sym, ◌∙◌}
+use lib.ListN.{get_or}
 use Rattle.lists.proofs.Lists.{elem_at}
-use Rattle.pool_table.specs.Words.{pool_of}
-use Rattle.template.proofs.Collecting.{Gathering, gather_start, gather_turn, gather_done}
+use Rattle.template.proofs.Collecting.{gather_start, gather_turn, gather_done}
 use Rattle.template.proofs.collect.collect_all.Goals as goal
 
 pub loop-i-init : goal.loop-i-init

@@ -1,10 +1,8 @@
-use mathlib.Core.Path.{◌≡◌, refl, sym, ◌∙◌}
+use mathlib.Core.Path.{◌≡◌}
 use Prim.Native.Nat.{◌-◌}
-use lib.ListN.{length, get_or, take}
-use borrow.Author.Rules.{rules}
-use Rattle.lists.proofs.Lists.{elem_at}
+use lib.ListN.{length, take}
 use Rattle.pool_table.specs.Words.{pool_of}
-use Rattle.template.proofs.Collecting.{Gathering, gather_start, gather_turn, gather_done}
+use Rattle.template.proofs.Collecting.{Gathering}
 use Rattle.template.proofs.collect.collect_all.Given as goal
 
 abbrev pub invariant-loop-i : goal.invariant-loop-i

@@ -1,10 +1,4 @@
-use mathlib.Core.Path.{◌≡◌, refl, sym, ◌∙◌}
-use Prim.Native.Nat.{◌-◌}
-use lib.ListN.{length, drop}
-use borrow.Author.Rules.{rules}
-use borrow.Author.Tests.{not-true, not-false}
-use Rattle.lists.specs.Lists.{all_of}
-use Rattle.txset.specs.Sets.{has_in}
+use mathlib.Core.Path.{refl, sym, ◌∙◌}
 use Rattle.template.proofs.Asking.{all_no, all_so_far, all_yes}
 use Rattle.template.proofs.tests.all_taken.Goals as goal
 

@@ -1,11 +1,8 @@
-use mathlib.Core.Path.{◌≡◌, refl, sym, ◌∙◌}
+use mathlib.Core.Path.{◌≡◌}
 use Prim.Native.Nat.{◌-◌}
 use lib.ListN.{length, drop}
-use borrow.Author.Rules.{rules}
-use borrow.Author.Tests.{not-true, not-false}
 use Rattle.lists.specs.Lists.{all_of}
 use Rattle.txset.specs.Sets.{has_in}
-use Rattle.template.proofs.Asking.{all_no, all_so_far, all_yes}
 use Rattle.template.proofs.tests.all_taken.Given as goal
 
 abbrev pub invariant-loop-i : goal.invariant-loop-i

@@ -1,9 +1,4 @@
-use mathlib.Core.Path.{◌≡◌, refl, sym, ◌∙◌}
-use Prim.Native.Nat.{◌-◌}
-use lib.ListN.{length, drop}
-use borrow.Author.Rules.{rules}
-use Rattle.lists.specs.Lists.{any_of}
-use Rattle.template_rules.specs.Filling.{withheld}
+use mathlib.Core.Path.{refl, sym, ◌∙◌}
 use Rattle.template.proofs.Asking.{any_yes, any_not_yet, any_no}
 use Rattle.template.proofs.tests.any_withheld.Goals as goal
 

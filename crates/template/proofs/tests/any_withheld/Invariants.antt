@@ -1,10 +1,8 @@
-use mathlib.Core.Path.{◌≡◌, refl, sym, ◌∙◌}
+use mathlib.Core.Path.{◌≡◌}
 use Prim.Native.Nat.{◌-◌}
 use lib.ListN.{length, drop}
-use borrow.Author.Rules.{rules}
 use Rattle.lists.specs.Lists.{any_of}
 use Rattle.template_rules.specs.Filling.{withheld}
-use Rattle.template.proofs.Asking.{any_yes, any_not_yet, any_no}
 use Rattle.template.proofs.tests.any_withheld.Given as goal
 
 abbrev pub invariant-loop-i : goal.invariant-loop-i

@@ -3,7 +3,6 @@ use mathlib.Core.Bool.{not}
 use Prim.Native.Nat.{ℕ}
 use lib.Dec.{eqb}
 use lib.ListN.{get_or-eq_default}
-use borrow.Author.Rules.{rules}
 use Rattle.template_rules.specs.Filling.{withheld}
 use Rattle.template.proofs.tests.is_withheld.Goals as goal
 

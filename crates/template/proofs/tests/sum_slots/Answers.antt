@@ -1,11 +1,8 @@
 use mathlib.Core.Path.{ap}
-use Prim.Native.Nat.{◌-◌}
 use native.Mathlib.Omega.{arith}
-use lib.ListN.{length}
-use borrow.Author.Rules.{rules}
 use Rattle.pool_table.specs.declared.Entry.{Entry}
 use Rattle.pool_table.specs.Words.{pool_of}
-use Rattle.template.proofs.Asking.{Summing, sum_start, sum_fits, sum_turn, sum_done}
+use Rattle.template.proofs.Asking.{sum_start, sum_fits, sum_turn, sum_done}
 use Rattle.template.proofs.tests.sum_slots.Goals as goal
 
 pub loop-i-init : goal.loop-i-init
