@@ -27,6 +27,5 @@ pub returns-then-at-eq0 : goal.returns-then-at-eq0
 returns-then-at-eq0 c = λ pending e. none _ pending c.if-at-eq0.true e
 
 pub returns : goal.returns
-returns c = let number = c.before.before in
-    let else = number.before.before in
-    λ pending e. some pending _ _ _ else.if-at-eq0.false e number.number.ensures c.write_malformed.ensures
+returns c =
+    λ pending e. some pending _ _ _ c.if-at-eq0.false e c.number.ensures (c.write_malformed.ensures.value, c.write_malformed.ensures.out_after)

@@ -12,11 +12,7 @@ use Rattle.pool_run.proofs.Chunks.{gave_bytes, gave_end, gave_failure}
 use Rattle.pool_run.proofs.Steps.{at_start, told}
 use Rattle.pool_run.proofs.Stops.{stops, one_turn, as_many, further}
 use Rattle.pool_run.proofs.read_all.Goals as goal
-use Rattle.pool_run.proofs.read_all.Goals.{After-last-n, After-read_chunk, After-take_in-arg-in-Bytes-3-1, At-loop-turns}
-
--- the loop's head, where a turn reads
-abbrev head : After-read_chunk → At-loop-turns
-head c = c.before.before.before
+use Rattle.pool_run.proofs.read_all.Goals.{In-Bytes, After-last-n}
 
 pub loop-turns-init : goal.loop-turns-init
 loop-turns-init c = rw (c.nothing-input.ensures, c.nothing.ensures) (refl, record { input = []; many = refl; stands = at_start _ _ _ _ })
@@ -27,54 +23,46 @@ read_chunk-requires c = let behind = c.loop-turns.invariant.1 in
 
 -- a read failed
 pub returns-in-Failed : goal.returns-in-Failed
-returns-in-Failed c = let got = c.before.before in
-    let read = got.before.before in
+returns-in-Failed c =
     stops c.stopped.ensures.0 c.stopped.ensures.1
-    (failed (as_many (head read).loop-turns.invariant.1 (gave_failure _ _ read.read_chunk.ensures got.in-Failed.is)))
+    (failed (as_many c.loop-turns.invariant.1 (gave_failure _ _ c.read_chunk.ensures c.in-Failed.is)))
 
 -- the input has ended
 pub finish-requires : goal.finish-requires
-finish-requires c = let got = c.before in
-    let read = got.before.before in
-    let behind = (head read).loop-turns.invariant.1 in
-    told behind.stands (gave_end _ _ read.read_chunk.ensures got.in-Ended.is ∙ behind.many)
-
--- what a read gave lies
-pub slice_bounds-chunk-end : goal.slice_bounds-chunk-end
-slice_bounds-chunk-end c = let got = c.before.before in
-    omega (arith, c.last-n.ensures, (gave_bytes _ _ got.read_chunk.ensures got.in-Bytes.is).1)
-
-abbrev chunk_read : After-take_in-arg-in-Bytes-3-1 → After-last-n
-chunk_read c = c.before.before.before.before.before
-
-pub take_in-at-requires : goal.take_in-at-requires
-take_in-at-requires c = let read = (chunk_read c).before.before.before.before in
-    record { input = _; stands = (head read).loop-turns.inv.1.stands }
-
--- a write failed
-pub returns-then-not-is_open : goal.returns-then-not-is_open
-returns-then-not-is_open c = let then = c.before in
-    stops c.stopped-then-not-is_open.ensures.0 c.stopped-then-not-is_open.ensures.1 (closed (sym then.is_open.ensures ∙ then.if-not-is_open.true))
-
-pub loop-turns-preserved : goal.loop-turns-preserved
-loop-turns-preserved c = let called = c.before.before.before in
-    let last = chunk_read called.before in
-    let got = last.before.before in
-    let read = got.before.before in
-    let gave = gave_bytes _ _ read.read-chunk.ensures got.more.given.1 in
-    let begun = (head read).loop-turns in
-    let still = sym c.is_open.ensures ∙ c.if-not-is_open.false in (
-      one_turn begun.turns begun.input.reads begun.inv.0 read.before.before.loop-test.taken gave.2,
-      further begun.inv.1 _ called.take_in-at.ensures still last.last.ensures (slice_bounds-chunk-end last) gave.3,
-    )
-
-pub returns : goal.returns
-returns c = let left = c.before in
-    let inv = left.loop-turns.invariant in
-    stops c.stopped-2.ensures.0 c.stopped-2.ensures.1 (tired (omega (arith, inv.0, left.loop-turns-test.false)) inv.1)
+finish-requires c = let behind = c.loop-turns.invariant.1 in
+    told behind.stands (gave_end _ _ c.read_chunk.ensures c.in-Ended.is ∙ behind.many)
 
 pub returns-in-Ended : goal.returns-in-Ended
 returns-in-Ended c = c.finish.ensures _ _ _ _
 
+-- what a read gave lies within the room
+within : (c : After-last-n) → c.last-n.result ≤ length c.read_chunk.new.room
+within c = omega (arith, c.last-n.ensures, (gave_bytes _ _ c.read_chunk.ensures c.in-Bytes.is).1)
+
+pub slice_bounds-chunk-end : goal.slice_bounds-chunk-end
+slice_bounds-chunk-end c = within (goal.at.slice_bounds-chunk-end c).After-last-n
+
 pub slice_bounds-take_in-end : goal.slice_bounds-take_in-end
-slice_bounds-take_in-end c = sym (length-take-le _ _ (slice_bounds-chunk-end c.before))
+slice_bounds-take_in-end c = sym (length-take-le _ _ (within (goal.at.slice_bounds-take_in-end c).After-last-n))
+
+pub take_in-at-requires : goal.take_in-at-requires
+take_in-at-requires c = record { input = _; stands = c.loop-turns.invariant.1.stands }
+
+-- a write failed
+pub returns-then-not-is_open : goal.returns-then-not-is_open
+returns-then-not-is_open c =
+    stops c.stopped-then-not-is_open.ensures.0 c.stopped-then-not-is_open.ensures.1 (closed (sym c.is_open.ensures ∙ c.if-not-is_open.true))
+
+pub loop-turns-preserved : goal.loop-turns-preserved
+loop-turns-preserved c =
+    let gave = gave_bytes _ _ c.read_chunk.ensures c.in-Bytes.is in
+    let begun = c.loop-turns in
+    let still = sym c.is_open.ensures ∙ c.if-not-is_open.false in (
+      one_turn begun.turns begun.input.reads begun.invariant.0 c.loop-turns-test.true gave.2,
+      further begun.invariant.1 _ c.take_in-at.ensures still c.last-n.ensures (within (goal.at.loop-turns-preserved c).After-last-n) gave.3,
+    )
+
+pub returns : goal.returns
+returns c =
+    let inv = c.loop-turns.invariant in
+    stops c.stopped-2.ensures.0 c.stopped-2.ensures.1 (tired (omega (arith, inv.0, c.loop-turns-test.false)) inv.1)

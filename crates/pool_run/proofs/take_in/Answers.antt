@@ -16,22 +16,17 @@ loop-i-init c = (omega arith, λ input st. rw (append-nil input) st)
 
 -- the program stands behind some input at each byte
 pub take_byte-at-requires : goal.take_byte-at-requires
-take_byte-at-requires c = let head = c.before.before.before.before.before.before in
-    let begun = head.requires in
-    record { input = _; stands = head.loop-i.invariant.1 begun.input begun.stands }
+take_byte-at-requires c = record { input = _; stands = c.loop-i.invariant.1 c.requires.input c.requires.stands }
 
 pub loop-i-preserved : goal.loop-i-preserved
-loop-i-preserved c = let asked = c.before in
-    let called = asked.before.before in
-    let turn = called.before.before.before.before.before.before in
-    let head = turn.before in
-    let chunk = head.args.chunk.now in
-    let more = turn.loop-i-test.true in (
+loop-i-preserved c =
+    let chunk = c.args.chunk.now in
+    let more = c.loop-i-test.true in (
       omega (arith, more),
       λ input st.
-          rw (next_byte input chunk head.loop-i.i more)
-          (called.take_byte-at.ensures (input ++ take head.loop-i.i chunk) (head.loop-i.invariant.1 input st)
-          (sym asked.is_open.ensures ∙ c.if-not-is_open.false)),
+          rw (next_byte input chunk c.loop-i.i more)
+          (c.take_byte-at.ensures (input ++ take c.loop-i.i chunk) (c.loop-i.invariant.1 input st)
+          (sym c.is_open.ensures ∙ c.if-not-is_open.false)),
     )
 
 -- an answer was not written
@@ -39,5 +34,5 @@ pub returns-then-not-is_open : goal.returns-then-not-is_open
 returns-then-not-is_open c = λ input st e. clash e (sym c.is_open.ensures ∙ c.if-not-is_open.true)
 
 pub returns : goal.returns
-returns c = let head = c.before in
-    λ input st e. rw (take_all head.loop-i.i head.args.chunk.now c.loop-i-test.false) at (head.loop-i.invariant.1 input st)
+returns c =
+    λ input st e. rw (take_all c.loop-i.i c.args.chunk.now c.loop-i-test.false) at (c.loop-i.invariant.1 input st)
