@@ -5,8 +5,8 @@ use Rattle.linearize.proofs.order_cluster.Goals as goal
 pub order_in-requires : goal.order_in-requires
 order_in-requires c = let h = c.requires in record {
   checked = h;
-  room = new_room 8 (omega (arith, h.same, c.if-fees-le-FEW.true)) (omega (arith, h.same, c.if-fees-le-FEW.true));
-  fees_in_bounds = c.if-fees-le-FEW.true;
+  room = new_room 8 (omega (arith, h.same)) (omega (arith, h.same));
+  fees_in_bounds = omega arith;
 }
 
 pub order_in-requires-2 : goal.order_in-requires-2
@@ -15,9 +15,3 @@ order_in-requires-2 c = let h = c.requires in record {
   room = new_room 64 (omega (arith, h.same, h.few)) (omega (arith, h.same, h.few));
   fees_in_bounds = h.few;
 }
-
-pub returns-then-fees-le-FEW : goal.returns-then-fees-le-FEW
-returns-then-fees-le-FEW c = c.order_in.ensures
-
-pub returns : goal.returns
-returns c = c.order_in-2.ensures
