@@ -104,12 +104,6 @@ module _ (t : ℕ) (c : After-loop-left t) where
     ),
   )
 
-pub offset_bounds-picked-end : goal.offset_bounds-picked-end
-offset_bounds-picked-end t c = omega (arith, room t (goal.at.offset_bounds-picked-end t c).After-loop-left)
-
-pub bounds-picked-end : goal.bounds-picked-end
-bounds-picked-end t c = omega (arith, room t (goal.at.bounds-picked-end t c).After-loop-left)
-
 pub overflow_add-result : goal.overflow_add-result
 overflow_add-result t c = omega (arith, room t (goal.at.overflow_add-result t c).After-loop-left)
 
@@ -123,3 +117,9 @@ pub returns : goal.returns
 returns t c = let l = (goal.at.returns t c).After-loop-left in
     climb_done c.requires.laid c.args.s c.requires.s_value c.loop-left.invariant.0 (over t l) c.requires.selected (new t l)
     c.insert.new.set c.insert.ensures.set_len_unchanged c.insert.ensures.by_index
+
+pub offset_bounds-picked-end : goal.offset_bounds-picked-end
+offset_bounds-picked-end t c = omega (arith, room t (goal.at.offset_bounds-picked-end t c).After-loop-left)
+
+pub bounds-picked-end : goal.bounds-picked-end
+bounds-picked-end t c = omega (arith, room t (goal.at.bounds-picked-end t c).After-loop-left)
