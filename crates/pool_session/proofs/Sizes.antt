@@ -1,13 +1,13 @@
 -- How long a session's parts are: a delta and a mark for each slot of the table, whatever lines there were. Assumes nothing.
 use mathlib.Core.Path.{◌≡◌, refl, sym, ap, ◌∙◌}
 use mathlib.Core.Bool.{true, ◌&&◌}
-use mathlib.Core.List.{List, [], ◌∷◌, ◌++◌}
-use Prim.Native.Nat.{ℕ, suc, ◌≤◌}
+use mathlib.Core.List.{List, [], ◌∷◌}
+use Prim.Native.Nat.{ℕ, ◌≤◌}
 use native.Mathlib.Omega.{arith}
 use lib.Dec.{eqb, leb}
 use lib.IntN.{ℤ, pos}
-use lib.ListN.{length, set, replicate, length-set, length-replicate}
-use borrow.Author.Tests.{eqb-true, eq-eqb, ne_eqb, leb-true}
+use lib.ListN.{length, length-set, length-replicate}
+use borrow.Author.Tests.{eqb-true, ne_eqb, leb-true}
 use Rattle.lists.proofs.Bools.{cases, cond_where, and_left, and_right}
 use Rattle.slotsets.specs.SlotSets.{capacity}
 use Rattle.refusals.specs.Refusals.{answer_of, kept_unless}
@@ -22,7 +22,7 @@ use Rattle.pool_rules.specs.declared.Placed.{Placed}
 use Rattle.pool_rules.specs.Calls.{make_answer, clear_answer, add_reply, named_reply, add_refusals, named_refusals, after_add, after_remove, after_set_cost}
 use Rattle.pool_rules.specs.Calls.{after_clear}
 use Rattle.pool_history.specs.History as history
-use Rattle.pool_history.proofs.Follows.{Follows, follows, follows_length}
+use Rattle.pool_history.proofs.Follows.{follows, follows_length}
 use Rattle.pool_reader.specs.Requests.{Request, make, add, remove, set_cost, clear, totals, delta, mark, template, malformed, request_of}
 use Rattle.pool_session.specs.Session.{Session, no_pool, slots_of, lent_table, after, after_making, wiped, wiped_all, mark_of}
 use Rattle.pool_session.specs.Program.{behind_lines}

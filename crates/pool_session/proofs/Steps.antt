@@ -12,7 +12,7 @@ use borrow.Author.Tests.{eq-eqb, ne_eqb, eqb-true, eqb-false, ltb-true, ltb-fals
 use Rattle.lists.specs.Lists.{overwrite}
 use Rattle.lists.proofs.Bools.{cases, cond_where}
 use Rattle.refusals.specs.declared.Reply.{Reply}
-use Rattle.refusals.specs.Refusals.{Line, answer_of, reply_of, kept_unless}
+use Rattle.refusals.specs.Refusals.{answer_of, reply_of, kept_unless}
 use Rattle.slotsets.specs.SlotSets.{capacity}
 use Rattle.txids.specs.declared.Txid.{Txid}
 use Rattle.pool_table.specs.declared.Entry.{Entry}

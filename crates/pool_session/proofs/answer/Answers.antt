@@ -5,7 +5,7 @@ use lib.ListN.{take}
 use mir.Facts.{to_z-of_z}
 use mir.Syntax.{w64}
 use mir.Val.{SFits, to_z, of_z}
-use borrow.Author.Rules.{rules, sfits_of}
+use borrow.Author.Rules.{rules}
 use Rattle.txids.specs.Txids.{txid_at}
 use Rattle.pool_rules.specs.Calls.{entry_of}
 use Rattle.pool_reader.specs.declared.Parsed.{Parsed}

@@ -1,5 +1,4 @@
 use mathlib.Core.Path.{refl}
-use borrow.Author.Rules.{rules}
 use Rattle.pool_session.proofs.Steps.{asks}
 use Rattle.pool_session.proofs.step.Goals as goal
 
