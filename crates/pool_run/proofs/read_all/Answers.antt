@@ -25,19 +25,19 @@ read_chunk-requires c = let behind = c.loop-turns.invariant.1 in
 pub returns-in-Failed : goal.returns-in-Failed
 returns-in-Failed c =
     stops c.stopped.ensures.0 c.stopped.ensures.1
-    (failed (as_many c.loop-turns.invariant.1 (gave_failure _ _ c.read_chunk.ensures c.in-Failed.is)))
+    (failed (as_many c.loop-turns.invariant.1 (gave_failure c.loop-turns.input _ c.read_chunk.ensures c.in-Failed.is)))
 
 -- the input has ended
 pub finish-requires : goal.finish-requires
 finish-requires c = let behind = c.loop-turns.invariant.1 in
-    told behind.stands (gave_end _ _ c.read_chunk.ensures c.in-Ended.is ∙ behind.many)
+    told behind.stands (gave_end c.loop-turns.input _ c.read_chunk.ensures c.in-Ended.is ∙ behind.many)
 
 pub returns-in-Ended : goal.returns-in-Ended
 returns-in-Ended c = c.finish.ensures _ _ _ _
 
 -- what a read gave lies within the room
 within : (c : After-last-n) → c.last-n.result ≤ length c.read_chunk.new.room
-within c = omega (arith, c.last-n.ensures, (gave_bytes _ _ c.read_chunk.ensures c.in-Bytes.is).1)
+within c = omega (arith, c.last-n.ensures, (gave_bytes c.loop-turns.input _ c.read_chunk.ensures c.in-Bytes.is).1)
 
 pub slice_bounds-chunk-end : goal.slice_bounds-chunk-end
 slice_bounds-chunk-end c = within (goal.at.slice_bounds-chunk-end c).After-last-n
@@ -55,7 +55,7 @@ returns-then-not-is_open c =
 
 pub loop-turns-preserved : goal.loop-turns-preserved
 loop-turns-preserved c =
-    let gave = gave_bytes _ _ c.read_chunk.ensures c.in-Bytes.is in
+    let gave = gave_bytes c.loop-turns.input _ c.read_chunk.ensures c.in-Bytes.is in
     let begun = c.loop-turns in
     let still = sym c.is_open.ensures ∙ c.if-not-is_open.false in (
       one_turn begun.turns begun.input.reads begun.invariant.0 c.loop-turns-test.true gave.2,
