@@ -1,7 +1,7 @@
 -- What is known of a read and of a stop, by their cases. Assumes nothing.
 use Prim.Native.Nat.{ℕ, ◌+◌, ◌≤◌, ◌<◌}
 use native.Mathlib.Omega.{arith}
-use mathlib.Core.Path.{◌≡◌, refl, subst}
+use mathlib.Core.Path.{◌≡◌, subst}
 use mathlib.Core.List.{List}
 use lib.ListN.{length}
 use Rattle.cluster_run.specs.declared.reads.Got.{Got}

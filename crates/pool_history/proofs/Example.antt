@@ -31,7 +31,7 @@ use Rattle.pool_chunks.specs.Chunks.{fee_of, size_of}
 use Rattle.pool_chunks.specs.Sorted.{delta_in_range, bad_delta}
 use Rattle.template_rules.specs.Filling as filling
 use Rattle.template_rules.proofs.One.{Fits}
-use Rattle.pool_history.specs.History.{make, add, remove, set_cost, clear, template, answer_to, table_after, slots_on, Event, History, begun, next}
+use Rattle.pool_history.specs.History.{make, add, remove, set_cost, clear, answer_to, table_after, slots_on, Event, History, begun, next}
 use Rattle.pool_history.specs.Standing.{stands, held, linked, lists, all_added, all_removed, total_weight, how_many, board, lowest_unused}
 use Rattle.pool_history.specs.Standing.{standing_at, limits_now, standing}
 use Rattle.pool_history.specs.Replies.{add_refusals_by, named_refusals_by, template_refusals_by, refusals_by}

@@ -27,7 +27,7 @@ use Rattle.pool_rules.specs.Module8.{is_in, slot_of, lowest_free, is_listed, cou
 use Rattle.template_rules.specs.Filling as filling
 use Rattle.template_rules.proofs.One.{Fits}
 use Rattle.template_rules.proofs.Theorems.{template_one}
-use Rattle.pool_history.specs.History.{make, add, remove, clear, template, answer_to, table_after, slots_on, Event, History, begun}
+use Rattle.pool_history.specs.History.{make, add, remove, clear, answer_to, table_after, slots_on, Event, History, begun}
 use Rattle.pool_history.specs.Standing.{stands, linked, lists, all_added, all_removed, how_many, board, limits_now, standing}
 use Rattle.pool_history.specs.Replies.{add_refusals_by, refusals_by}
 use Rattle.pool_history.proofs.Kept.{well_kept, kept_plain}

@@ -16,7 +16,7 @@ use Rattle.pool_table.proofs.Theorems.{Wholes}
 use Rattle.pool_rules.specs.Module8.{with_slots}
 use Rattle.pool_rules.proofs.Pools.{count_with, slot_with}
 use Rattle.pool_history.specs.History.{Event}
-use Rattle.pool_history.specs.Standing.{held, linked, total_weight, board, limits_now, standing_at, standing}
+use Rattle.pool_history.specs.Standing.{linked, total_weight, board, limits_now, standing_at, standing}
 use Rattle.pool_history.proofs.Plain.{names, Plain}
 use Rattle.pool_history.proofs.Places.{At}
 use Rattle.pool_history.proofs.Account.{account, Right}

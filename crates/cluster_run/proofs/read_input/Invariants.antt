@@ -1,14 +1,8 @@
-use Prim.Native.Nat.{◌+◌, ◌-◌, ◌≤◌, ◌<◌}
-use native.Mathlib.Omega.{arith}
-use mathlib.Core.Path.{◌≡◌, refl, sym, ◌∙◌}
-use mathlib.Core.List.{[]}
+use Prim.Native.Nat.{◌-◌, ◌≤◌}
+use mathlib.Core.Path.{◌≡◌}
 use mathlib.Core.Bool.{false}
 use lib.ListN.{length, take}
-use lib.Seq.{length-take-le}
-use borrow.Author.Rules.{rules}
-use Rattle.texts.specs.Places.{before}
 use Rattle.cluster_reader.specs.Calls.{is_decided}
-use Rattle.cluster_run.proofs.Stops.{gave_bytes, gave_end, gave_failure}
 use Rattle.cluster_run.proofs.read_input.Given as goal
 
 abbrev pub invariant-loop-len : goal.invariant-loop-len

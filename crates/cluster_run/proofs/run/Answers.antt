@@ -3,7 +3,6 @@ use native.Mathlib.Omega.{arith}
 use mathlib.Core.Path.{sym, ap, ◌∙◌}
 use lib.ListN.{length, length-append}
 use lib.Seq.{length-take-le}
-use borrow.Author.Rules.{rules}
 use Rattle.cluster_run.proofs.Stops.{stop_within}
 use Rattle.cluster_run.proofs.run.Goals as goal
 use Rattle.cluster_run.proofs.run.Goals.{In-Bytes, After-respond-n}

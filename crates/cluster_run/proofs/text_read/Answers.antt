@@ -1,6 +1,3 @@
-use mathlib.Core.Path.{sym, ap}
-use borrow.Author.Rules.{rules}
-use Rattle.cluster_run.specs.Stops.{text_read}
 use Rattle.cluster_run.proofs.text_read.Goals as goal
 
 pub returns-in-Ended : goal.returns-in-Ended

@@ -1,4 +1,4 @@
-use Rattle.std.proofs.Common.{◌≡◌, ◌-◌, length, rules}
+use Rattle.std.proofs.Common.{◌≡◌, ◌-◌, length}
 use Rattle.pool_replay.proofs.listed.Given as goal
 
 abbrev pub invariant-loop-k : goal.invariant-loop-k

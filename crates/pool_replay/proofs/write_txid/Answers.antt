@@ -1,4 +1,4 @@
-use Rattle.std.proofs.Common.{◌≡◌, ◌≤◌, length, length-set, rules}
+use Rattle.std.proofs.Common.{length-set, rules}
 use Rattle.pool_replay.proofs.write_txid.Goals as goal
 
 pub bounds-bytes-at-in-loop-i : goal.bounds-bytes-at-in-loop-i

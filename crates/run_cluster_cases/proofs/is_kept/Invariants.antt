@@ -1,5 +1,4 @@
 use Prim.Native.Nat.{◌-◌}
-use borrow.Author.Rules.{rules}
 use Rattle.run_cluster_cases.proofs.is_kept.Given as goal
 
 abbrev pub invariant-loop-i : goal.invariant-loop-i

@@ -1,8 +1,6 @@
 use Prim.Native.Nat.{◌-◌, ◌≤◌}
 use mathlib.Core.Path.{◌≡◌}
-use lib.ListN.{length, length-set}
-use borrow.Author.Tests.{not-false}
-use borrow.Author.Rules.{rules}
+use lib.ListN.{length}
 use Rattle.run_cluster_replay.proofs.read_order.Given as goal
 
 abbrev pub invariant-loop-n : goal.invariant-loop-n

@@ -1,7 +1,5 @@
 use Prim.Native.Nat.{◌≤◌}
-use mathlib.Core.Path.{sym}
 use lib.ListN.{length}
-use lib.Seq.{length-take-le}
 use Rattle.run_cluster_texts.proofs.Bounds.{bytes_within}
 use Rattle.run_cluster_texts.proofs.case.Goals as goal
 use Rattle.run_cluster_texts.proofs.case.Goals.{In-Bytes}

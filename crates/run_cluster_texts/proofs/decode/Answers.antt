@@ -1,6 +1,4 @@
-use Prim.Native.Nat.{◌-◌, ◌≤◌}
-use mathlib.Core.Path.{◌≡◌}
-use lib.ListN.{length, length-set}
+use lib.ListN.{length-set}
 use borrow.Author.Rules.{rules}
 use Rattle.run_cluster_texts.proofs.decode.Goals as goal
 

@@ -1,7 +1,6 @@
 use Prim.Native.Nat.{◌-◌, ◌≤◌}
 use mathlib.Core.Path.{◌≡◌}
-use lib.ListN.{length, length-set}
-use borrow.Author.Rules.{rules}
+use lib.ListN.{length}
 use Rattle.run_cluster_texts.proofs.decode.Given as goal
 
 abbrev pub invariant-loop-i : goal.invariant-loop-i

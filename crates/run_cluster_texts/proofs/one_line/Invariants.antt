@@ -1,7 +1,6 @@
 use Prim.Native.Nat.{◌-◌}
 use mathlib.Core.Path.{◌≡◌}
 use lib.ListN.{length}
-use borrow.Author.Rules.{rules}
 use Rattle.run_cluster_texts.proofs.one_line.Given as goal
 
 abbrev pub invariant-loop-i : goal.invariant-loop-i

@@ -1,9 +1,7 @@
 use Prim.Native.Nat.{◌≤◌}
 use native.Mathlib.Omega.{arith}
-use mathlib.Core.Path.{sym, ap}
+use mathlib.Core.Path.{ap}
 use lib.ListN.{length, length-append}
-use lib.Seq.{length-take-le}
-use Rattle.run_cluster_texts.proofs.show_response.Goals as goal
 use Rattle.run_cluster_texts.proofs.show_response.Goals.{After-one_line}
 
 -- what is printed lies within its room

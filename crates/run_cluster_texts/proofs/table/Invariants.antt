@@ -1,6 +1,5 @@
 use Prim.Native.Nat.{◌-◌, ◌≤◌}
 use lib.ListN.{length}
-use borrow.Author.Rules.{rules}
 use Rattle.run_cluster_texts.proofs.table.Given as goal
 
 abbrev pub invariant-loop-from : goal.invariant-loop-from

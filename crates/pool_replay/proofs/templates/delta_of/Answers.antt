@@ -1,4 +1,4 @@
-use Rattle.std.proofs.Common.{◌≡◌, ℕ, suc, ◌-◌, ◌%◌, negsuc, ◌-ℤ◌, subst, arith, w64, SFits, to_z, rules}
+use Rattle.std.proofs.Common.{◌≡◌, ℕ, suc, ◌-◌, ◌%◌, negsuc, ◌-ℤ◌, subst, arith, w64, SFits, to_z}
 use Rattle.texts.proofs.Decimals.{turned_fits}
 use Rattle.pool_replay.proofs.templates.delta_of.Goals as goal
 
