@@ -2,16 +2,15 @@
 use mathlib.Core.Path.{◌≡◌, refl, sym, ap, ◌∙◌}
 use mathlib.Core.Logic.{⊎_elim}
 use mathlib.Core.List.{List, [], ◌∷◌, ◌++◌, append_assoc}
-use Prim.Native.Nat.{ℕ, suc, ◌+◌, ◌≤◌, ◌<◌, min}
+use Prim.Native.Nat.{ℕ, ◌+◌, ◌≤◌, ◌<◌}
 use native.Mathlib.Numerals.{add-one}
 use native.Mathlib.Omega.{arith}
-use lib.Dec.{eqb}
 use lib.ListN.{length, get_or, take, set, length-append, length-take}
 use lib.Seq.{take_all, take-append-le, take-suc, take-suc-set}
 use borrow.Author.Tests.{eq-eqb, ne_eqb}
 use Rattle.lists.proofs.Numbers.{lt_or_ge}
 use Rattle.texts.specs.Places.{split, split_from}
-use Rattle.pool_reader.specs.Requests.{longest_line, request_of}
+use Rattle.pool_reader.specs.Requests.{request_of}
 use Rattle.pool_reader.proofs.Asking.{too_long}
 use Rattle.pool_session.specs.Program.{number_behind}
 use Rattle.pool_run.specs.Standing.{kept_length, Gathered, Cut}

@@ -1,8 +1,8 @@
 -- From what a step says to where the program stands behind its line, and behind a byte within a line. Assumes nothing.
 use mathlib.Core.Path.{◌≡◌, refl, sym, ap, ◌∙◌}
-use mathlib.Core.Bool.{Bool, true}
-use mathlib.Core.List.{List, [], ◌∷◌, ◌++◌, append-nil}
-use Prim.Native.Nat.{ℕ, suc, ◌+◌, ◌≤◌, min}
+use mathlib.Core.Bool.{true}
+use mathlib.Core.List.{List, [], ◌∷◌, ◌++◌}
+use Prim.Native.Nat.{ℕ, ◌≤◌, min}
 use native.Mathlib.Omega.{arith}
 use lib.IntN.{ℤ}
 use lib.ListN.{length, take, drop, length-append}
@@ -13,13 +13,13 @@ use Rattle.pool_session.specs.declared.Done.{Done}
 use Rattle.pool_session.specs.Session.{Session, no_pool, slots_of, after}
 use Rattle.pool_session.specs.Answers.{text_of}
 use Rattle.pool_session.specs.Program.{last_text, number_behind, answers_from, responses, behind_lines}
-use Rattle.pool_session.specs.Memory.{Lent, lent, words_for, session_in, Says, Answered, Stepped}
+use Rattle.pool_session.specs.Memory.{Lent, lent, words_for, session_in, Says, Stepped}
 use Rattle.pool_session.proofs.Steps.{asks}
 use Rattle.pool_session.proofs.Sizes.{Matched, few, table_length, matched_lines}
 use Rattle.pool_run.specs.declared.State.{State}
 use Rattle.pool_run.specs.declared.writes.Printed.{Printed}
 use Rattle.pool_run.specs.Reads.{held, unprinted, Wrote}
-use Rattle.pool_run.specs.Standing.{kept_length, Gathered, printed_of, Shown, Due, DueLast, Stands, Told, Holds, Responded}
+use Rattle.pool_run.specs.Standing.{kept_length, Gathered, printed_of, Due, DueLast, Stands, Told, Holds, Responded}
 use Rattle.pool_run.specs.Stops.{Whole}
 use Rattle.pool_run.proofs.Answers.{printed_more, printed_whole, more_bytes}
 use Rattle.pool_run.proofs.Lines.{nothing_gathered, asks_same, cut_within, cut_behind, next_number}

@@ -1,19 +1,18 @@
 -- For readers: however the input comes, in one read or in many, the program's answers are one and the same. `Stands` says where it is behind
 -- some of the input; what it has printed then and what is still to come are all that `responses` of pool_session prints. No proof of a
 -- function cites these. Assumes nothing.
-use mathlib.Core.Path.{◌≡◌, sym, ap, ◌∙◌}
+use mathlib.Core.Path.{◌≡◌, ap, ◌∙◌}
 use mathlib.Core.Bool.{Bool, true, false, cond}
 use mathlib.Core.List.{List, [], ◌∷◌, ◌++◌}
 use Prim.Native.Nat.{ℕ}
 use native.Mathlib.Omega.{arith}
 use lib.Dec.{eqb}
 use lib.IntN.{ℤ}
-use Rattle.texts.specs.Places.{split, split_from}
-use Rattle.pool_session.specs.Session.{Session, no_pool}
+use Rattle.texts.specs.Places.{split_from}
+use Rattle.pool_session.specs.Session.{no_pool}
 use Rattle.pool_session.specs.Memory.{lent, session_in}
 use Rattle.pool_session.specs.Program.{answers_from, responses, behind_lines}
 use Rattle.pool_run.specs.declared.State.{State}
-use Rattle.pool_run.specs.Reads.{held}
 use Rattle.pool_run.specs.Standing.{printed_of, Stands}
 use Rattle.pool_run.proofs.Answers.{lines_first}
 

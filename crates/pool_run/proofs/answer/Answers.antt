@@ -2,7 +2,6 @@ use Prim.Native.Nat.{◌≤◌}
 use mathlib.Core.Path.{sym}
 use lib.ListN.{length}
 use lib.Seq.{length-take-le}
-use Rattle.pool_run.specs.Standing.{Stood}
 use Rattle.pool_run.proofs.Steps.{answer_due, line_answered}
 use Rattle.pool_run.proofs.answer.Goals as goal
 use Rattle.pool_run.proofs.answer.Goals.{After-respond-done}

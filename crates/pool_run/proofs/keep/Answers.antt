@@ -1,5 +1,4 @@
 use native.Mathlib.Omega.{arith}
-use borrow.Author.Rules.{rules}
 use Rattle.pool_run.proofs.Lines.{byte_kept, byte_dropped}
 use Rattle.pool_run.proofs.keep.Goals as goal
 

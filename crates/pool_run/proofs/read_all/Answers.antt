@@ -1,13 +1,10 @@
-use mathlib.Core.Path.{◌≡◌, refl, sym, ◌∙◌}
+use mathlib.Core.Path.{refl, sym, ◌∙◌}
 use mathlib.Core.List.{[]}
-use Prim.Native.Nat.{◌+◌, ◌≤◌}
+use Prim.Native.Nat.{◌≤◌}
 use native.Mathlib.Omega.{arith}
 use lib.ListN.{length}
 use lib.Seq.{length-take-le}
-use borrow.Author.Rules.{rules}
-use borrow.Author.Tests.{not-true, not-false}
-use Rattle.pool_session.specs.Program.{last_number}
-use Rattle.pool_run.specs.Stops.{Behind, failed, closed, tired}
+use Rattle.pool_run.specs.Stops.{failed, closed, tired}
 use Rattle.pool_run.proofs.Chunks.{gave_bytes, gave_end, gave_failure}
 use Rattle.pool_run.proofs.Steps.{at_start, told}
 use Rattle.pool_run.proofs.Stops.{stops, one_turn, as_many, further}
