@@ -9,6 +9,13 @@ use Rattle.cluster_writer.specs.Writing.{shown_rate}
 use Rattle.cluster_writer.proofs.Rate.{turned_fits, turned_read, rate_up, rate_top, rate_down, rate_bottom}
 use Rattle.cluster_writer.proofs.shown_rate.Goals as goal
 
+pub returns-then-fee-lt0 : goal.returns-then-fee-lt0
+returns-then-fee-lt0 c =
+    let f : SFits w64 c.args.rate.fee = search rules in
+    let n = less f zero_fits c.if-fee-lt0.true in
+    let q = rw (below_size f n) at c.scaled_over-q.ensures in
+    turned_read c.scaled_over-q.result (omega arith) ∙ sym (rate_down _ c.if-size-eq0.false q n (omega arith))
+
 pub returns-then-size-eq0 : goal.returns-then-size-eq0
 unfolding shown_rate
 returns-then-size-eq0 c = rw c.if-size-eq0.true
@@ -20,13 +27,6 @@ returns-then-q-gt9223372036854775807 c =
     let n = less f zero_fits c.if-fee-lt0.true in
     let q = rw (below_size f n) at c.scaled_over-q.ensures in
     sym (rate_bottom _ c.if-size-eq0.false q n (omega arith))
-
-pub returns-then-fee-lt0 : goal.returns-then-fee-lt0
-returns-then-fee-lt0 c =
-    let f : SFits w64 c.args.rate.fee = search rules in
-    let n = less f zero_fits c.if-fee-lt0.true in
-    let q = rw (below_size f n) at c.scaled_over-q.ensures in
-    turned_read c.scaled_over-q.result (omega arith) ∙ sym (rate_down _ c.if-size-eq0.false q n (omega arith))
 
 pub returns-then-q-gt9223372036854775807-2 : goal.returns-then-q-gt9223372036854775807-2
 returns-then-q-gt9223372036854775807-2 c =

@@ -46,14 +46,14 @@ module _ (c : After-lay_out-laid) where
   abbrev table : List ℕ
   table = c.args.table.now
 
-  abbrev poolIn : Pool
-  poolIn = pool_of table
+  abbrev pool_in : Pool
+  pool_in = pool_of table
 
-  abbrev deltasIn : List ℤ
-  deltasIn = c.args.deltas.now
+  abbrev deltas_in : List ℤ
+  deltas_in = c.args.deltas.now
 
   abbrev slots : ℕ
-  slots = slot_count poolIn
+  slots = slot_count pool_in
 
   abbrev one : List ℕ
   one = length c.args.fees.now ∷ []
@@ -77,21 +77,21 @@ module _ (c : After-lay_out-laid) where
   stands_is = stands_rest table one eight (one_wide in_fees) ∙ sym c.lay_out-laid.ensures.stands_value
 
   -- the answer, by the rooms
-  told : answer_of (delta_refusals c.lay_out-laid.result.stands table deltasIn)
-      ≡ answer_of (delta_refusals (stands_in table (length c.args.fees.now ∷ eight)) table deltasIn)
-  told = ap (λ (b : Bool). answer_of (delta_refusals b table deltasIn)) (sym stands_is)
+  told : answer_of (delta_refusals c.lay_out-laid.result.stands table deltas_in)
+      ≡ answer_of (delta_refusals (stands_in table (length c.args.fees.now ∷ eight)) table deltas_in)
+  told = ap (λ (b : Bool). answer_of (delta_refusals b table deltas_in)) (sym stands_is)
 
   -- ---- nothing is refused
 
-  module _ (answer : answer_of (delta_refusals c.lay_out-laid.result.stands table deltasIn) ≡ 0) where
+  module _ (answer : answer_of (delta_refusals c.lay_out-laid.result.stands table deltas_in) ≡ 0) where
     stands : c.lay_out-laid.result.stands ≡ true
-    stands = stood c.lay_out-laid.result.stands table deltasIn answer
+    stands = stood c.lay_out-laid.result.stands table deltas_in answer
 
     both : (roomy slots eight ≡ true) × (well_formed table ≡ true)
     both = stands_both table eight (sym c.lay_out-laid.ensures.stands_value ∙ stands)
 
-    sane : Taken poolIn deltasIn
-    sane = taken c.lay_out-laid.result.stands table deltasIn answer both.1
+    sane : Taken pool_in deltas_in
+    sane = taken c.lay_out-laid.result.stands table deltas_in answer both.1
 
     rooms : (slots < length c.args.members.now)
         × (slots < length c.args.bounds.now)
@@ -103,7 +103,7 @@ module _ (c : After-lay_out-laid) where
         × (slots < length c.args.sizes.now)
     rooms = eight_wide both.0
 
-    out : LaidOut poolIn c.lay_out-laid.result.count c.lay_out-laid.new.members c.lay_out-laid.new.bounds c.lay_out-laid.new.firsts
+    out : LaidOut pool_in c.lay_out-laid.result.count c.lay_out-laid.new.members c.lay_out-laid.new.bounds c.lay_out-laid.new.firsts
         c.lay_out-laid.new.ups
     out = c.lay_out-laid.ensures.laid_out stands
 

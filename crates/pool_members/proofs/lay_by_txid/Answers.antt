@@ -28,30 +28,30 @@ use Rattle.pool_members.proofs.lay_by_txid.Goals.{Else-k-eq0, In-loop-i}
 -- ---- the next slot by txid
 
 module _ (c : In-loop-i) where
-  abbrev poolAt : Pool
-  poolAt = pool_of c.args.table.now
+  abbrev pool_at : Pool
+  pool_at = pool_of c.args.table.now
 
   abbrev slot : ℕ
   slot = get_or c.args.order.now c.loop-i.i 0
 
-  few' : slot_count poolAt ≤ capacity
+  few' : slot_count pool_at ≤ capacity
   few' = few c.args.table.now c.requires.linked
 
-  links : links_mutual poolAt ≡ true
+  links : links_mutual pool_at ≡ true
   links = c.requires.linked.links
 
-  in_order : c.loop-i.i < length (slots_by_txid poolAt)
+  in_order : c.loop-i.i < length (slots_by_txid pool_at)
   in_order = subst (λ (xs : List ℕ). c.loop-i.i < length xs) c.requires.order_value c.loop-i-test.true
 
-  at_order : slot ≡ get_or (slots_by_txid poolAt) c.loop-i.i 0
+  at_order : slot ≡ get_or (slots_by_txid pool_at) c.loop-i.i 0
   at_order = ap (λ (xs : List ℕ). get_or xs c.loop-i.i 0) c.requires.order_value
 
-  taken : occupied poolAt slot ≡ true
+  taken : occupied pool_at slot ≡ true
   taken = laying_taken few' links c.loop-i.i in_order slot at_order c.loop-i.invariant.1
 
   -- that was not seen
   module _ (new : has_in c.loop-i.seen slot ≡ false) where
-    room : c.loop-i.end + length (members_of poolAt slot) ≤ length c.loop-i.members
+    room : c.loop-i.end + length (members_of pool_at slot) ≤ length c.loop-i.members
     room = laying_room few' links c.loop-i.i in_order slot at_order c.loop-i.invariant.1 new
 
     bound : (c.loop-i.count + 1 < length c.loop-i.bounds) × (c.loop-i.count + 1 ≤ capacity)
@@ -63,8 +63,8 @@ module _ (c : In-loop-i) where
 -- ---- its cluster, once it is listed and within the limits
 
 module _ (c : Else-k-eq0) where
-  abbrev membersAt : List ℕ
-  membersAt = members_of (pool_of c.args.table.now) (get_or c.args.order.now c.loop-i.i 0)
+  abbrev members_at : List ℕ
+  members_at = members_of (pool_of c.args.table.now) (get_or c.args.order.now c.loop-i.i 0)
 
   abbrev listed : List ℕ
   listed = back c.loop-i.end (length c.loop-i.members - c.loop-i.end) c.list_cluster-k.new.room c.loop-i.members
@@ -72,20 +72,20 @@ module _ (c : Else-k-eq0) where
   some : 0 < c.list_cluster-k.result
   some = omega (arith, c.if-k-eq0.false)
 
-  many : c.list_cluster-k.result ≡ length membersAt
+  many : c.list_cluster-k.result ≡ length members_at
   many = (c.list_cluster-k.ensures.listed some).many
 
-  module _ (room : c.loop-i.end + length membersAt ≤ length c.loop-i.members) where
+  module _ (room : c.loop-i.end + length members_at ≤ length c.loop-i.members) where
     listed_long : length listed ≡ length c.loop-i.members
-    listed_long = row_long _ membersAt _ _ room (c.list_cluster-k.ensures.listed some).here
+    listed_long = row_long _ members_at _ _ room (c.list_cluster-k.ensures.listed some).here
 
-    listed_here : take (length membersAt) (drop c.loop-i.end listed) ≡ membersAt
-    listed_here = row_here _ membersAt _ _ room (c.list_cluster-k.ensures.listed some).here
+    listed_here : take (length members_at) (drop c.loop-i.end listed) ≡ members_at
+    listed_here = row_here _ members_at _ _ room (c.list_cluster-k.ensures.listed some).here
 
     -- what is lent to be noted
-    part_is : take (c.loop-i.end + c.list_cluster-k.result - c.loop-i.end) (drop c.loop-i.end listed) ≡ membersAt
+    part_is : take (c.loop-i.end + c.list_cluster-k.result - c.loop-i.end) (drop c.loop-i.end listed) ≡ members_at
     part_is =
-        let e : c.loop-i.end + c.list_cluster-k.result - c.loop-i.end ≡ length membersAt = omega (arith, many) in
+        let e : c.loop-i.end + c.list_cluster-k.result - c.loop-i.end ≡ length members_at = omega (arith, many) in
         ap (λ (n : ℕ). take n (drop c.loop-i.end listed)) e ∙ listed_here
 
 -- ---- the needs
@@ -112,13 +112,13 @@ list_cluster-k-requires c = let d = (goal.at.list_cluster-k-requires c).In-loop-
   table_in_bounds = c.requires.table_in_bounds;
   seen_len = c.loop-i.invariant.1.seen_long;
   s_in_bounds =
-      row_lent c.loop-i.end (members_of (poolAt d) (slot d)) c.loop-i.members (room d (sym c.contains.ensures ∙ c.if-contains.false));
+      row_lent c.loop-i.end (members_of (pool_at d) (slot d)) c.loop-i.members (room d (sym c.contains.ensures ∙ c.if-contains.false));
 }
 
 -- a cluster that passes a limit
 pub returns-then-k-eq0 : goal.returns-then-k-eq0
 returns-then-k-eq0 c = let d = (goal.at.returns-then-k-eq0 c).In-loop-i in
-    let p = poolAt d in record {
+    let p = pool_at d in record {
       stands_value = sym (walk_fails p (slot d) (occupied_in p (slot d) (taken d)) (taken d) (c.list_cluster-k.ensures.s_value (omega (arith, c.if-k-eq0.true))));
       laid_out = λ e. absurd (false≢true e);
     }
@@ -134,11 +134,11 @@ note_all-requires c = let e = (goal.at.note_all-requires c).Else-k-eq0 in
     let h = c.loop-i.invariant.1 in
     let linked = c.requires.linked in
     let short =
-    within_few (poolAt d) (few' d) (links d) (slot d) (taken d) linked.limits (c.list_cluster-k.ensures.listed (some e)).good in record {
+    within_few (pool_at d) (few' d) (links d) (slot d) (taken d) linked.limits (c.list_cluster-k.ensures.listed (some e)).good in record {
       linked = linked;
       closed =
-          subst (Closed (poolAt d)) (sym (part_is e (room d (sym c.contains.ensures ∙ c.if-contains.false))))
-          (members_closed (poolAt d) (few' d) (links d) (slot d) (taken d) short);
+          subst (Closed (pool_at d)) (sym (part_is e (room d (sym c.contains.ensures ∙ c.if-contains.false))))
+          (members_closed (pool_at d) (few' d) (links d) (slot d) (taken d) short);
       table_in_bounds = h.rooms.in_places;
       table_in_bounds_2 = (h.rooms.in_firsts, h.rooms.in_ups);
     }
@@ -148,7 +148,7 @@ loop-i-preserved c = let e = (goal.at.loop-i-preserved c).Else-k-eq0 in
     let d = (goal.at.loop-i-preserved c).In-loop-i in
     let new = sym c.contains.ensures ∙ c.if-contains.false in
     let r = room d new in
-    let p = poolAt d in
+    let p = pool_at d in
     let loop = c.loop-i in
     let inv = loop.invariant in
     let told = c.list_cluster-k.ensures.listed (some e) in
@@ -160,7 +160,7 @@ loop-i-preserved c = let e = (goal.at.loop-i-preserved c).Else-k-eq0 in
             good = told.good;
             total = ap (λ (n : ℕ). loop.end + n) told.many;
             long = listed_long e r;
-            kept = row_kept _ (membersAt e) _ _ r told.here;
+            kept = row_kept _ (members_at e) _ _ r told.here;
             here = listed_here e r;
             starts = subst (λ (xs : List ℕ). StoredAt xs (λ k. loop.end) loop.firsts firsts) (part_is e r) c.note_all.ensures.stored_at;
             parents =

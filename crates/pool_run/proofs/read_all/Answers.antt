@@ -9,7 +9,7 @@ use Rattle.pool_run.proofs.Chunks.{gave_bytes, gave_end, gave_failure}
 use Rattle.pool_run.proofs.Steps.{at_start, told}
 use Rattle.pool_run.proofs.Stops.{stops, one_turn, as_many, further}
 use Rattle.pool_run.proofs.read_all.Goals as goal
-use Rattle.pool_run.proofs.read_all.Goals.{In-Bytes, After-last-n}
+use Rattle.pool_run.proofs.read_all.Goals.{After-last-n}
 
 pub loop-turns-init : goal.loop-turns-init
 loop-turns-init c = rw (c.nothing-input.ensures, c.nothing.ensures) (refl, record { input = []; many = refl; stands = at_start _ _ _ _ })

@@ -14,8 +14,8 @@ use Rattle.template.proofs.fill.Goals.{In-loop-k}
 -- ---- in a turn, of the k-th chunk
 
 module _ (c : In-loop-k) where
-  abbrev poolIn : Pool
-  poolIn = pool_of c.args.table.now
+  abbrev pool_in : Pool
+  pool_in = pool_of c.args.table.now
 
   few : (c.loop-k.k < length c.args.order.now) × (get_or c.args.order.now c.loop-k.k 0 + 1 < length c.args.starts.now)
   few =
@@ -23,7 +23,7 @@ module _ (c : In-loop-k) where
       omega (
         arith,
         c.loop-k-test.true,
-        numbers_long poolIn c.requires.fillable.deltas sorted,
+        numbers_long pool_in c.requires.fillable.deltas sorted,
         sorted.within c.loop-k.k c.loop-k-test.true,
         sorted.ends,
       )
@@ -33,16 +33,16 @@ module _ (c : In-loop-k) where
   number = get_or c.args.order.now c.loop-k.k 0
 
   rise : get_or c.args.starts.now number 0 ≤ get_or c.args.starts.now (number + 1) 0
-  rise = starts_rise poolIn c.requires.fillable.deltas c.requires.fillable.sorted c.loop-k.k c.loop-k-test.true
+  rise = starts_rise pool_in c.requires.fillable.deltas c.requires.fillable.sorted c.loop-k.k c.loop-k-test.true
 
   within : get_or c.args.starts.now (number + 1) 0 ≤ length c.args.listed.now
-  within = starts_within poolIn c.requires.fillable.deltas c.requires.fillable.sorted c.loop-k.k c.loop-k-test.true
+  within = starts_within pool_in c.requires.fillable.deltas c.requires.fillable.sorted c.loop-k.k c.loop-k-test.true
 
   from_few : get_or c.args.starts.now number 0 ≤ 1024
   from_few =
       let given = c.requires.fillable in
-      let h : get_or c.args.starts.now (number + 1) 0 ≤ slot_count poolIn =
-      starts_few poolIn given.deltas given.sorted c.loop-k.k c.loop-k-test.true given.few given.stands in
+      let h : get_or c.args.starts.now (number + 1) 0 ≤ slot_count pool_in =
+      starts_few pool_in given.deltas given.sorted c.loop-k.k c.loop-k-test.true given.few given.stands in
       omega (arith, rise, given.few)
 
 pub loop-k-init : goal.loop-k-init

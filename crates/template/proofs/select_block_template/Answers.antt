@@ -62,8 +62,8 @@ module _ (c : After-refusal-answer) where
   told : c.refusal-answer.result ≡ answer_of (template_refusals t w room)
   told = c.refusal-answer.ensures c.args.deltas.now c.args.terms own
 
-  abbrev arraysOf : Arrays
-  arraysOf =
+  abbrev arrays_of : Arrays
+  arrays_of =
       let new = c.all_chunks-cut.new in
       arrays c.all_chunks-cut.result.count new.listed new.starts new.fees new.sizes new.order new.members new.firsts new.ups
 
@@ -76,7 +76,7 @@ module _ (c : After-refusal-answer) where
     well : well_formed t ≡ true
     well = (parts_of t w room takes).0
 
-    sorted : Sorted (pool_of t) c.args.deltas.now arraysOf
+    sorted : Sorted (pool_of t) c.args.deltas.now arrays_of
     sorted = c.all_chunks-cut.ensures.sorted (answer_none t w room own takes)
 
     rooms : (slot_count (pool_of t) < length c.args.bounds.now) × (slot_count (pool_of t) < length c.args.firsts.now)
@@ -94,7 +94,7 @@ pub fill-n-requires : goal.fill-n-requires
 fill-n-requires c = let d = (goal.at.fill-n-requires c).After-refusal-answer in
     let e = c.if-answer-ne0.false in
     let kept = c.all_chunks-cut.auto in record {
-      fillable = fillable (t d) (well d e) c.args.deltas.now (arraysOf d) (omega (arith, (rooms d e).1, kept.firsts)) (sorted d e);
+      fillable = fillable (t d) (well d e) c.args.deltas.now (arrays_of d) (omega (arith, (rooms d e).1, kept.firsts)) (sorted d e);
       table_in_bounds = omega (arith, (rooms d e).0, kept.bounds);
     }
 

@@ -13,7 +13,7 @@ use Rattle.wide.specs.Words.{value}
 use Rattle.feefrac.proofs.Signed.{less, not_less, zero_fits}
 use Rattle.feefrac.proofs.Order.{size_above, size_below, size_same, both_up, both_down, up_down, down_up}
 use Rattle.feefrac.proofs.compare.compare_wide.Goals as goal
-use Rattle.feefrac.proofs.compare.compare_wide.Goals.{After-product-then-af-lt0-2, After-product-then-bf-lt0-2-2, Start, Else-af-lt0, Then-af-lt0}
+use Rattle.feefrac.proofs.compare.compare_wide.Goals.{After-product-then-af-lt0-2, After-product-then-bf-lt0-2-2, Start}
 
 -- the fees are numbers of their type
 module _ (p : Start) where

@@ -30,20 +30,20 @@ sane t ds e = taken (well_formed t) t ds e (stood (well_formed t) t ds e)
 -- ---- at the loop's head: where the next cluster starts, and the rooms
 
 module _ (c : At-loop-c) where
-  abbrev fromAt : ℕ
-  fromAt = get_or c.args.bounds.now c.loop-c.c 0
+  abbrev from_at : ℕ
+  from_at = get_or c.args.bounds.now c.loop-c.c 0
 
   safe : Taken (pool_of c.args.table.now) c.args.deltas.now
   safe = sane c.args.table.now c.args.deltas.now c.requires.deltas_value
 
-  from_fits : fromAt ≤ slot_count (pool_of c.args.table.now)
+  from_fits : from_at ≤ slot_count (pool_of c.args.table.now)
   from_fits = bound_fit safe c.requires.laying.rows c.loop-c.c c.loop-c.invariant.up
 
   count_fits : c.loop-c.count ≤ slot_count (pool_of c.args.table.now)
   count_fits = omega (arith, from_fits, c.loop-c.invariant.few)
 
   -- numbers that a word holds
-  from_few : fromAt ≤ 1024
+  from_few : from_at ≤ 1024
   from_few = omega (arith, from_fits, safe.few)
 
   count_few : c.loop-c.count ≤ 1024
@@ -64,7 +64,7 @@ module _ (c : At-loop-c) where
   sizes_long = cutting.sizes_long c.loop-c.invariant (omega (arith, from_fits, c.requires.rooms.in_sizes))
 
   -- what is written has a place in each room
-  in_listed : fromAt ≤ length c.loop-c.listed
+  in_listed : from_at ≤ length c.loop-c.listed
   in_listed = omega (arith, from_fits, listed_long, c.requires.rooms.in_listed)
 
   in_starts : c.loop-c.count + 1 ≤ length c.loop-c.starts
@@ -79,16 +79,16 @@ module _ (c : At-loop-c) where
 -- ---- in a turn: the cluster that is lent
 
 module _ (c : In-loop-c) where
-  abbrev poolIn : Pool
-  poolIn = pool_of c.args.table.now
+  abbrev pool_in : Pool
+  pool_in = pool_of c.args.table.now
 
-  abbrev deltasIn : List ℤ
-  deltasIn = c.args.deltas.now
+  abbrev deltas_in : List ℤ
+  deltas_in = c.args.deltas.now
 
-  safe_here : Taken poolIn deltasIn
-  safe_here = sane c.args.table.now deltasIn c.requires.deltas_value
+  safe_here : Taken pool_in deltas_in
+  safe_here = sane c.args.table.now deltas_in c.requires.deltas_value
 
-  below : c.loop-c.c < length (clusters poolIn)
+  below : c.loop-c.c < length (clusters pool_in)
   below = omega (arith, c.loop-c-test.true, c.requires.laying.many)
 
   abbrev to_at : ℕ
@@ -103,17 +103,17 @@ module _ (c : In-loop-c) where
   c_few : c.loop-c.c < 1024
   c_few = omega (arith, below, clusters_fit safe_here, safe_here.few)
 
-  to_fits : to_at ≤ slot_count poolIn
+  to_fits : to_at ≤ slot_count pool_in
   to_fits = bound_fit safe_here c.requires.laying.rows (c.loop-c.c + 1) (omega (arith, below))
 
   to_is : to_at ≡ get_or c.args.bounds.now c.loop-c.c 0 + length ms
   to_is = laid.next_bound safe_here c.requires.laying.rows c.loop-c.c below
 
-  acyclic : is_cyclic (map (parents_of poolIn ms) ms) ≡ false
-  acyclic = cluster_acyclic poolIn safe_here.few safe_here.sound (lent_cluster safe_here c.requires.laying.rows c.loop-c.c below)
+  acyclic : is_cyclic (map (parents_of pool_in ms) ms) ≡ false
+  acyclic = cluster_acyclic pool_in safe_here.few safe_here.sound (lent_cluster safe_here c.requires.laying.rows c.loop-c.c below)
 
-  count_more : {k : ℕ} → k ≡ length (parts_of poolIn deltasIn ms) → c.loop-c.count + k ≤ slot_count poolIn
-  count_more e = omega (arith, e, parts_few poolIn deltasIn ms acyclic, c.loop-c.invariant.few, to_is, to_fits)
+  count_more : {k : ℕ} → k ≡ length (parts_of pool_in deltas_in ms) → c.loop-c.count + k ≤ slot_count pool_in
+  count_more e = omega (arith, e, parts_few pool_in deltas_in ms acyclic, c.loop-c.invariant.few, to_is, to_fits)
 
 -- ---- the needs
 
@@ -138,7 +138,7 @@ cut_cluster-count-requires c = let w = (goal.at.cut_cluster-count-requires c).In
     let out = c.requires.laying in record {
       cuttable = lent_cuttable (safe a) out.rows c.loop-c.c (below w) out.parents out.in_ups;
       members_in_bounds = (
-        omega (arith, tail_long (fromAt a) c.loop-c.listed, listed_long a, wide.in_listed),
+        omega (arith, tail_long (from_at a) c.loop-c.listed, listed_long a, wide.in_listed),
         omega (arith, tail_long (k + 1) c.loop-c.starts, starts_long a, wide.in_starts),
       );
       members_in_bounds_2 = (

@@ -15,62 +15,62 @@ use Rattle.pool_chunks.proofs.cut.cut_cluster.Goals.{After-gather_parents, After
 -- ---- what was gathered
 
 module _ (c : After-gather_rates) where
-  abbrev membersIn : List ℕ
-  membersIn = c.args.members.now
+  abbrev members_in : List ℕ
+  members_in = c.args.members.now
 
-  abbrev poolIn : Pool
-  poolIn = pool_of c.args.table.now
+  abbrev pool_in : Pool
+  pool_in = pool_of c.args.table.now
 
-  abbrev deltasIn : List ℤ
-  deltasIn = c.args.deltas.now
+  abbrev deltas_in : List ℤ
+  deltas_in = c.args.deltas.now
 
   -- the starts of both rooms, as they are lent
-  abbrev feesLent : List ℤ
-  feesLent = take (length c.args.members.now) c.gather_rates.new.fees
+  abbrev fees_lent : List ℤ
+  fees_lent = take (length c.args.members.now) c.gather_rates.new.fees
 
-  abbrev sizesLent : List ℕ
-  sizesLent = take (length c.args.members.now) c.gather_rates.new.sizes
+  abbrev sizes_lent : List ℕ
+  sizes_lent = take (length c.args.members.now) c.gather_rates.new.sizes
 
-  fees_are : feesLent ≡ fees_of poolIn deltasIn membersIn
-  fees_are = front_is _ _ c.gather_rates.ensures.fees_after (length-map membersIn _)
+  fees_are : fees_lent ≡ fees_of pool_in deltas_in members_in
+  fees_are = front_is _ _ c.gather_rates.ensures.fees_after (length-map members_in _)
 
-  fees_long : length feesLent ≡ length membersIn
-  fees_long = ap length fees_are ∙ length-map membersIn _
+  fees_long : length fees_lent ≡ length members_in
+  fees_long = ap length fees_are ∙ length-map members_in _
 
-  fees_wide : length membersIn ≤ length c.gather_rates.new.fees
+  fees_wide : length members_in ≤ length c.gather_rates.new.fees
   fees_wide = omega (arith, c.gather_rates.auto.fees, c.requires.cuttable.few)
 
-  sizes_are : sizesLent ≡ sizes_of poolIn membersIn
-  sizes_are = front_is _ _ c.gather_rates.ensures.sizes_after (length-map membersIn _)
+  sizes_are : sizes_lent ≡ sizes_of pool_in members_in
+  sizes_are = front_is _ _ c.gather_rates.ensures.sizes_after (length-map members_in _)
 
-  sizes_long : length sizesLent ≡ length membersIn
-  sizes_long = ap length sizes_are ∙ length-map membersIn _
+  sizes_long : length sizes_lent ≡ length members_in
+  sizes_long = ap length sizes_are ∙ length-map members_in _
 
-  sizes_wide : length membersIn ≤ length c.gather_rates.new.sizes
+  sizes_wide : length members_in ≤ length c.gather_rates.new.sizes
   sizes_wide = omega (arith, c.gather_rates.auto.sizes, c.requires.cuttable.few)
 
 module _ (c : After-gather_parents) where
-  abbrev upsLent : List ℕ
-  upsLent = take (length c.args.members.now) c.gather_parents.new.parents
+  abbrev ups_lent : List ℕ
+  ups_lent = take (length c.args.members.now) c.gather_parents.new.parents
 
-  ups_are : upsLent ≡ map (λ s. get_or c.args.ups.now s 0) c.args.members.now
+  ups_are : ups_lent ≡ map (λ s. get_or c.args.ups.now s 0) c.args.members.now
   ups_are = front_is _ _ c.gather_parents.ensures (length-map c.args.members.now _)
 
-  ups_long : length upsLent ≡ length c.args.members.now
+  ups_long : length ups_lent ≡ length c.args.members.now
   ups_long = ap length ups_are ∙ length-map c.args.members.now _
 
 -- ---- what was ordered
 
 module _ (c : After-order_cluster-k) where
-  abbrev orderLent : List ℕ
-  orderLent = take (length c.args.members.now) c.order_cluster-k.new.order
+  abbrev order_lent : List ℕ
+  order_lent = take (length c.args.members.now) c.order_cluster-k.new.order
 
-  abbrev lensLent : List ℕ
-  lensLent = take c.order_cluster-k.result c.order_cluster-k.new.lens
+  abbrev lens_lent : List ℕ
+  lens_lent = take c.order_cluster-k.result c.order_cluster-k.new.lens
 
   -- the cluster, gathered as it was lent, came back ordered
   ready : Ordered c.requires.cuttable (take (length c.args.members.now) c.gather_rates.new.fees)
-      (take (length c.args.members.now) c.gather_rates.new.sizes) orderLent lensLent c.order_cluster-k.result
+      (take (length c.args.members.now) c.gather_rates.new.sizes) order_lent lens_lent c.order_cluster-k.result
   ready =
       let told = c.order_cluster-k.ensures in
       ordered c.requires.cuttable _ _ _ _ _
@@ -79,13 +79,13 @@ module _ (c : After-order_cluster-k) where
       (front_is _ _ c.gather_parents.ensures (length-map c.args.members.now _))
       told.value told.order_after told.lens_after
 
-  order_long : length orderLent ≡ length c.args.members.now
+  order_long : length order_lent ≡ length c.args.members.now
   order_long = ordered_long c.requires.cuttable ready
 
   order_wide : length c.args.members.now ≤ length c.order_cluster-k.new.order
   order_wide = omega (arith, c.order_cluster-k.auto.order, c.requires.cuttable.few)
 
-  lens_long : length lensLent ≡ c.order_cluster-k.result
+  lens_long : length lens_lent ≡ c.order_cluster-k.result
   lens_long = ordered_many c.requires.cuttable ready
 
   lens_few : c.order_cluster-k.result ≤ length c.args.members.now

@@ -93,43 +93,43 @@ returns-then-all_taken c = let s = (goal.at.returns-then-all_taken c).Start in
 -- ---- what it brings
 
 module _ (c : After-collect_all-end) where
-  abbrev poolAt : Pool
-  poolAt = pool_of c.args.table.now
+  abbrev pool_at : Pool
+  pool_at = pool_of c.args.table.now
 
-  abbrev outAt : List ℕ
-  outAt = take c.args.turn.used.count c.args.picked.now
+  abbrev out_at : List ℕ
+  out_at = take c.args.turn.used.count c.args.picked.now
 
-  abbrev addedAt : List ℕ
-  addedAt = addition poolAt outAt c.args.slots.now
+  abbrev added_at : List ℕ
+  added_at = addition pool_at out_at c.args.slots.now
 
-  abbrev linesAt : List Line
-  linesAt = reasons poolAt (settings [] c.args.marks.now c.args.turn.terms) outAt (chunk_with c.args.slots.now c.args.turn.rate)
+  abbrev lines_at : List Line
+  lines_at = reasons pool_at (settings [] c.args.marks.now c.args.turn.terms) out_at (chunk_with c.args.slots.now c.args.turn.rate)
 
   order : c.args.turn.used.count ≤ c.collect_all-end.result
-  order = brought_order outAt c.args.slots.now c.requires.stands.selected.count c.collect_all-end.ensures
+  order = brought_order out_at c.args.slots.now c.requires.stands.selected.count c.collect_all-end.ensures
 
   within : c.collect_all-end.result ≤ length c.collect_all-end.new.picked
-  within = brought_within outAt c.args.slots.now c.requires.stands.selected.count c.collect_all-end.ensures
+  within = brought_within out_at c.args.slots.now c.requires.stands.selected.count c.collect_all-end.ensures
 
-  stays : take (length outAt) c.collect_all-end.new.picked ≡ outAt
-  stays = brought_stays outAt c.args.slots.now c.requires.stands.selected.count c.collect_all-end.ensures
+  stays : take (length out_at) c.collect_all-end.new.picked ≡ out_at
+  stays = brought_stays out_at c.args.slots.now c.requires.stands.selected.count c.collect_all-end.ensures
 
   -- it stands behind what is selected
-  part_is : take (c.collect_all-end.result - c.args.turn.used.count) (drop c.args.turn.used.count c.collect_all-end.new.picked) ≡ addedAt
-  part_is = brought_is outAt c.args.slots.now c.requires.stands.selected.count c.collect_all-end.ensures
+  part_is : take (c.collect_all-end.result - c.args.turn.used.count) (drop c.args.turn.used.count c.collect_all-end.new.picked) ≡ added_at
+  part_is = brought_is out_at c.args.slots.now c.requires.stands.selected.count c.collect_all-end.ensures
 
-  added_held : Occupied poolAt addedAt × (length addedAt ≤ capacity)
+  added_held : Occupied pool_at added_at × (length added_at ≤ capacity)
   added_held = (
-    brought_held outAt c.args.slots.now c.requires.stands.selected.count c.collect_all-end.ensures,
-    brought_few outAt c.args.slots.now c.requires.stands.selected.count c.collect_all-end.ensures c.requires.laid.few,
+    brought_held out_at c.args.slots.now c.requires.stands.selected.count c.collect_all-end.ensures,
+    brought_few out_at c.args.slots.now c.requires.stands.selected.count c.collect_all-end.ensures c.requires.laid.few,
   )
 
   end_few : c.collect_all-end.result ≤ capacity
-  end_few = brought_end outAt c.args.slots.now c.requires.stands.selected.count c.collect_all-end.ensures c.requires.laid.few
+  end_few = brought_end out_at c.args.slots.now c.requires.stands.selected.count c.collect_all-end.ensures c.requires.laid.few
 
   -- ---- the tests by what it brings
 
-  tested : Past linesAt 4
+  tested : Past lines_at 4
   unfolding reasons
   tested =
       past
@@ -141,35 +141,35 @@ module _ (c : After-collect_all-end) where
   -- what is asked of the part is asked of what it brings
   brings : {b : Bool}
       → b ≡ any_of (withheld c.args.marks.now) (take (c.collect_all-end.result - c.args.turn.used.count) (drop c.args.turn.used.count c.collect_all-end.new.picked))
-      → any_of (withheld c.args.marks.now) addedAt ≡ b
+      → any_of (withheld c.args.marks.now) added_at ≡ b
   brings e = sym (e ∙ ap (any_of (withheld c.args.marks.now)) part_is)
 
-  module _ {more : Used} (sums : more ≡ sums_of poolAt addedAt) where
+  module _ {more : Used} (sums : more ≡ sums_of pool_at added_at) where
     heavy : {b : Bool} → b ≡ over_budget c.args.turn.terms.budget.0 c.args.turn.used.weight.0 more.weight.0
-        → over_budget c.args.turn.terms.budget.0 (raw_sum poolAt outAt) (raw_sum poolAt addedAt) ≡ b
+        → over_budget c.args.turn.terms.budget.0 (raw_sum pool_at out_at) (raw_sum pool_at added_at) ≡ b
     unfolding sums_of
     heavy e = sym (e ∙ ap₂ (over_budget c.args.turn.terms.budget.0) c.requires.stands.weight (ap (λ (u : Used). u.weight.0) sums))
 
     costly : {b : Bool} → b ≡ over_sigops c.args.turn.terms.reserve c.args.turn.used.cost more.cost
-        → over_sigops c.args.turn.terms.reserve (cost_sum poolAt outAt) (cost_sum poolAt addedAt) ≡ b
+        → over_sigops c.args.turn.terms.reserve (cost_sum pool_at out_at) (cost_sum pool_at added_at) ≡ b
     unfolding sums_of
     costly e =
         sym (e
         ∙ ap₂ (over_sigops c.args.turn.terms.reserve) c.requires.stands.cost (ap (λ (u : Used). u.cost) sums)
         ∙ sigops_held c.args.turn.terms.reserve _ _)
 
-    counted : more.count ≡ length addedAt
+    counted : more.count ≡ length added_at
     unfolding sums_of
     counted = ap (λ (u : Used). u.count) sums
 
     overflow_count : c.args.turn.used.count + more.count ≤ capacity
     overflow_count =
-        omega (arith, counted, brought_many outAt c.args.slots.now c.requires.stands.selected.count c.collect_all-end.ensures, end_few)
+        omega (arith, counted, brought_many out_at c.args.slots.now c.requires.stands.selected.count c.collect_all-end.ensures, end_few)
 
 pub sum_slots-more-requires : goal.sum_slots-more-requires
 sum_slots-more-requires c = let d = (goal.at.sum_slots-more-requires c).After-collect_all-end in record {
   table_value = c.requires.laid.stands;
-  occupied = subst (λ (l : List ℕ). Occupied (poolAt d) l × (length l ≤ capacity)) (sym (part_is d)) (added_held d);
+  occupied = subst (λ (l : List ℕ). Occupied (pool_at d) l × (length l ≤ capacity)) (sym (part_is d)) (added_held d);
 }
 
 pub returns-then-any_withheld-2 : goal.returns-then-any_withheld-2
@@ -180,7 +180,7 @@ returns-then-any_withheld-2 c = let d = (goal.at.returns-then-any_withheld-2 c).
 pub returns-then-over_budget : goal.returns-then-over_budget
 unfolding reasons
 returns-then-over_budget c = let d = (goal.at.returns-then-over_budget c).After-collect_all-end in
-    let sums = c.sum_slots-more.ensures ∙ ap (sums_of (poolAt d)) (part_is d) in
+    let sums = c.sum_slots-more.ensures ∙ ap (sums_of (pool_at d)) (part_is d) in
     tried_passed _ _ _ _ OverBudget
     (stop (past (tested d) (brings d c.any_withheld-2.ensures ∙ c.if-any_withheld-2.false))
     (heavy d sums c.over_budget.ensures ∙ c.if-over_budget.true))
@@ -189,7 +189,7 @@ returns-then-over_budget c = let d = (goal.at.returns-then-over_budget c).After-
 pub returns-then-over_sigops : goal.returns-then-over_sigops
 unfolding reasons
 returns-then-over_sigops c = let d = (goal.at.returns-then-over_sigops c).After-collect_all-end in
-    let sums = c.sum_slots-more.ensures ∙ ap (sums_of (poolAt d)) (part_is d) in
+    let sums = c.sum_slots-more.ensures ∙ ap (sums_of (pool_at d)) (part_is d) in
     tried_passed _ _ _ _ OverSigops
     (stop
     (past (past (tested d) (brings d c.any_withheld-2.ensures ∙ c.if-any_withheld-2.false))
@@ -209,7 +209,7 @@ small reserve a b e = let h = ltb-false 80000 (reserve + (a + b)) e in omega ari
 
 pub overflow_add-result : goal.overflow_add-result
 overflow_add-result c = let d = (goal.at.overflow_add-result c).After-collect_all-end in
-    omega (arith, overflow_count d (c.sum_slots-more.ensures ∙ ap (sums_of (poolAt d)) (part_is d)))
+    omega (arith, overflow_count d (c.sum_slots-more.ensures ∙ ap (sums_of (pool_at d)) (part_is d)))
 
 pub overflow_add-result-2 : goal.overflow_add-result-2
 overflow_add-result-2 c = omega (arith, light _ _ _ (sym c.over_budget.ensures ∙ c.if-over_budget.false))
@@ -220,7 +220,7 @@ overflow_add-result-3 c = omega (arith, small _ _ _ (sym c.over_sigops.ensures �
 pub returns : goal.returns
 unfolding reasons
 returns c = let d = (goal.at.returns c).After-collect_all-end in
-    let sums = c.sum_slots-more.ensures ∙ ap (sums_of (poolAt d)) (part_is d) in
+    let sums = c.sum_slots-more.ensures ∙ ap (sums_of (pool_at d)) (part_is d) in
     tried_taken _ _ _ _ c.requires.stands c.collect_all-end.ensures sums (small _ _ _ (sym c.over_sigops.ensures ∙ c.if-over_sigops.false))
     (all_past
     (past

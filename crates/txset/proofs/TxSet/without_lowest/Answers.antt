@@ -12,7 +12,7 @@ use Rattle.txset.proofs.Sets.{words_fit}
 use Rattle.txset.proofs.Words.{has_in_clear}
 use Rattle.txset.proofs.TxSet.without_lowest.Goals as goal
 
--- the code's test is the first word's of `clearFirst`
+-- the code's test is the first word's of `clear_first`
 without : (s : TxSet) → s.word < 2 ^ 64 → (b : Bool) → eqb s.word 0 ≡ b
     → (i : ℕ) → has_in (cond b (words s) (bit_and s.word (s.word - 1) ∷ [])) i ≡ (mem s i && not (eqb i (lowest_of s)))
 unfolding mem lowest_of
