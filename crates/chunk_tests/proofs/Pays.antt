@@ -10,8 +10,8 @@ use lib.Signed.{lt_z}
 use borrow.Author.Tests.{le-ltb, ltb-true, ltb-false}
 use Rattle.lists.proofs.Bools.{cases, clash}
 use Rattle.feefrac.specs.declared.FeeFrac.{FeeFrac}
-use Rattle.feefrac.specs.declared.Ordering.{Ordering}
-use Rattle.feefrac.specs.declared.Ordering.TheVariants.{Less, Equal, Greater}
+use Rattle.std.specs.declared.cmp.Ordering.{Ordering}
+use Rattle.std.specs.declared.cmp.Ordering.TheVariants.{Less, Equal, Greater}
 use Rattle.feefrac.specs.Rate.{higher, rate_order, then_by, is_greater}
 use Rattle.feefrac.proofs.Signed.{Le, less_parts}
 use Rattle.feefrac.proofs.Order.{rate_above, rate_below, rate_same}

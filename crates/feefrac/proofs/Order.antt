@@ -10,10 +10,12 @@ use lib.Signed.{lt_z}
 use mir.Syntax.{w64}
 use mir.Val.{SFits, to_z}
 use borrow.Author.Tests.{lt-ltb, le-ltb}
+use Rattle.std.proofs.lemmas.Bool.Decides.{nat_tests}
+use Rattle.std.specs.Ordering.{nat_cmp}
 use Rattle.feefrac.specs.Rate.{higher, rate_order, size_order, is_greater}
 use Rattle.feefrac.specs.Narrow.{Narrow}
 use Rattle.feefrac.specs.declared.FeeFrac.{FeeFrac}
-use Rattle.feefrac.specs.declared.Ordering.TheVariants.{Less, Equal, Greater}
+use Rattle.std.specs.declared.cmp.Ordering.TheVariants.{Less, Equal, Greater}
 use Rattle.feefrac.proofs.Signed.{up, down, Le, Lt, Z, less_parts, up_product, down_product, product_fits, product_read}
 
 -- ---- sizes
@@ -30,6 +32,11 @@ module _ {m n : ℕ} where
   pub size_same : m ≤ n → n ≤ m → size_order m n ≡ Equal
   unfolding size_order
   size_same h k = rw (le-ltb n m h, le-ltb m n k)
+
+-- as std's `cmp` says it
+pub size_cmp : (m n : ℕ) → nat_cmp m n ≡ size_order m n
+unfolding size_order
+size_cmp m n = grind (arith, nat_tests)
 
 -- ---- feerates
 

@@ -6,12 +6,12 @@ use Prim.Native.Nat.{ℕ, zero, suc, ◌+◌, ◌*◌, ◌≤◌, ◌<◌}
 use native.Mathlib.Nat.{le_of_lt, min-eq_left, min-eq_right, zero-mul, mul-le-mul}
 use native.Mathlib.Omega.{arith}
 use lib.Dec.{T, ltb, leb}
-use lib.IntN.{ℤ, pos, negsuc, neg_ℤ, nat_abs, sub_ℕ, ◌+ℤ◌, ◌-ℤ◌, ◌*ℤ◌, -ℤ-+ℤ_cancel, +ℤ-neg_ℤ_cancel}
+use lib.IntN.{ℤ, pos, negsuc, neg_ℤ, nat_abs, sub_ℕ, ◌+ℤ◌, ◌-ℤ◌, ◌*ℤ◌, -ℤ-+ℤ_cancel}
 use lib.Signed.{lt_z, le_z, non_neg}
 use mir.Syntax.{w64}
 use mir.Val.{Fits, SFits, to_z, of_z}
 use mir.Facts.{to_z-of_z, to_z_pos, Fits-nat_abs}
-use borrow.Author.Tests.{lt-ltb, le-ltb, le-leb, lt-leb, leb-true, leb-false, ltb-true, ltb-false}
+use borrow.Author.Tests.{lt-ltb, le-ltb, le-leb, lt-leb, ltb-true, ltb-false}
 use Rattle.lists.proofs.Bools.{cases}
 use Rattle.lists.proofs.Numbers.{leb_same, ltb_same}
 use Rattle.feefrac.specs.Rate.{held_fee}
@@ -51,12 +51,6 @@ Z z = to_z w64 (of_z w64 z)
 
 -- a test of two signed locals, as a fact of the parts
 module _ {x y : ℤ} (hx : SFits w64 x) (hy : SFits w64 y) where
-  pub most : le_z (Z x) (Z y) ≡ true → Le x y
-  most e = leb-true _ _ (sym (most_parts x y) ∙ (rw (to_z-of_z hx, to_z-of_z hy) at e))
-
-  pub not_most : le_z (Z x) (Z y) ≡ false → Lt y x
-  not_most e = leb-false _ _ (sym (most_parts x y) ∙ (rw (to_z-of_z hx, to_z-of_z hy) at e))
-
   pub less : lt_z (Z x) (Z y) ≡ true → Lt x y
   less e = ltb-true _ _ (sym (less_parts x y) ∙ (rw (to_z-of_z hx, to_z-of_z hy) at e))
 
@@ -82,9 +76,6 @@ sum (negsuc m) (negsuc n) = record { parts = omega arith }
 pub rest : (x : ℤ) {y : ℤ} → SFits w64 y → Sum (x -ℤ Z y) y x
 rest x {y} h = rw (to_z-of_z h) (rw (-ℤ-+ℤ_cancel x y) at (sum (x -ℤ y) y))
 
-pub rest_neg : (x : ℤ) {y : ℤ} → SFits w64 y → Sum (x +ℤ Z y) (neg_ℤ y) x
-rest_neg x {y} h = rw (to_z-of_z h) (rw (+ℤ-neg_ℤ_cancel x y) at (sum (x +ℤ y) (neg_ℤ y)))
-
 pub up_neg : (z : ℤ) → up (neg_ℤ z) ≡ down z
 up_neg (pos zero) = refl
 up_neg (pos (suc n)) = refl
@@ -94,9 +85,6 @@ pub down_neg : (z : ℤ) → down (neg_ℤ z) ≡ up z
 down_neg (pos zero) = refl
 down_neg (pos (suc n)) = refl
 down_neg (negsuc n) = refl
-
-pub turned : (x y : ℤ) → Le x y → Le (neg_ℤ y) (neg_ℤ x)
-turned x y h = omega (arith, up_neg x, down_neg x, up_neg y, down_neg y)
 
 -- ---- the range of an i64
 
@@ -183,40 +171,6 @@ module _ {z : ℤ} (hz : SFits w64 z) (negative : Lt z (pos 0)) where
 
   pub below_more : Fits w64 (nat_abs (Z below) + 1)
   below_more = rw below_size (Fits-nat_abs tt hz)
-
--- ---- a sum that is held: s is a + d, and the code compares a with what is left of an end of the range without d
-
--- d is an i64 or the negative of one
-pub record Step (d : ℤ) : Type 0 where
-  pub high : up d ≤ 9223372036854775808
-  pub low : down d ≤ 9223372036854775808
-
-pub step : {z : ℤ} → SFits w64 z → Step z
-step {z = pos n} h = record { high = omega (arith, h.sfits); low = omega arith }
-step {z = negsuc n} h = record { high = omega arith; low = omega (arith, h.sfits) }
-
-pub step_neg : {z : ℤ} → SFits w64 z → Step (neg_ℤ z)
-step_neg {z} h = record { high = omega (arith, step h, up_neg z); low = omega (arith, step h, down_neg z) }
-
-module _ {d left : ℤ} (hd : Step d) where
-  pub room_up : Sum left d top → Le (pos 0) d → SFits w64 left
-  room_up l g = in_range_lem left (omega arith) (omega arith)
-
-  pub room_down : Sum left d bottom → Le d (pos 0) → SFits w64 left
-  room_down l g = in_range_lem left (omega arith) (omega arith)
-
-module _ {a d s left : ℤ} (sum : Sum a d s) where
-  pub fits_up : Sum left d top → SFits w64 a → Le (pos 0) d → Le a left → SFits w64 s
-  fits_up l ha g h = in_range_lem s (omega (arith, above_bottom ha)) (omega arith)
-
-  pub fits_down : Sum left d bottom → SFits w64 a → Le d (pos 0) → Le left a → SFits w64 s
-  fits_down l ha g h = in_range_lem s (omega arith) (omega (arith, below_top ha))
-
-  pub held_up : Sum left d top → Lt left a → held_fee s ≡ top
-  held_up l h = held_high s (omega arith)
-
-  pub held_down : Sum left d bottom → Lt a left → held_fee s ≡ bottom
-  held_down l h = held_low s (omega arith)
 
 -- ---- a product with a size
 

@@ -1,10 +1,11 @@
 -- Document 01, module 1 (FeeFrac): what a fee over a size is, how two are summed, and how two compare.
 -- Everything above this crate speaks of feerates by these names alone. Assumes nothing.
-use Rattle.std.specs.Prelude.{ℕ, ◌+◌, ◌-◌, min, Bool, true, false, cond, List, ltb, get_or, ℤ, pos, negsuc, neg_ℤ, ◌+ℤ◌, ◌-ℤ◌, ◌*ℤ◌}
+use Rattle.std.specs.Prelude.{ℕ, ◌+◌, ◌-◌, min, Bool, cond, List, ltb, get_or, ℤ, pos, negsuc, neg_ℤ, ◌+ℤ◌, ◌-ℤ◌, ◌*ℤ◌}
 use Rattle.std.specs.Int.Signed.{lt_z}
 use Rattle.feefrac.specs.declared.FeeFrac.{FeeFrac}
-use Rattle.feefrac.specs.declared.Ordering.{Ordering}
-use Rattle.feefrac.specs.declared.Ordering.TheVariants.{Less, Equal, Greater}
+use Rattle.std.specs.declared.cmp.Ordering.{Ordering}
+use Rattle.std.specs.declared.cmp.Ordering.TheVariants.{Less, Equal, Greater}
+use Rattle.std.specs.Ordering.{ordering_then, is_gt}
 
 -- "fee sums at the ends of i64": -2^63 is `negsuc (2^63 - 1)`
 abbrev pub held_fee : ℤ → ℤ
@@ -49,9 +50,7 @@ size_order m n = cond (ltb n m) Greater (cond (ltb m n) Less Equal)
 
 -- a second order decides where the first says nothing
 abbrev pub then_by : Ordering → Ordering → Ordering
-then_by Greater o = Greater
-then_by Less o = Less
-then_by Equal o = o
+then_by = ordering_then
 
 -- "Rank: by feerate, then the smaller size ranks above."
 unfoldable pub rank_order : FeeFrac → FeeFrac → Ordering
@@ -59,6 +58,4 @@ rank_order a b = then_by (rate_order a b) (size_order b.size a.size)
 
 -- "the held one yielding only to one strictly above"
 abbrev pub is_greater : Ordering → Bool
-is_greater Greater = true
-is_greater Less = false
-is_greater Equal = false
+is_greater = is_gt

@@ -1,12 +1,13 @@
 // The exact three-way compare of two feerates, the leaf below `higher_rate` and `rank`.
 // Fees of up to 35 bits and sizes of up to 28, which serves the sums of 64 of the heaviest transactions, are compared by one-word
 // products; the rest by products of two words.
-ghost use Rattle.std.specs.Prelude.{◌≡◌, true, ◌+◌, ◌*◌, nat_abs, eqb};
-ghost use Rattle.feefrac.specs.Rate.{rate_order, size_order};
+ghost use Rattle.std.specs.Prelude.{◌≡◌, true, ◌+◌, ◌*◌, nat_abs, nat_eq};
+ghost use Rattle.feefrac.specs.Rate.{rate_order};
 ghost use Rattle.feefrac.specs.Narrow.{Narrow};
 ghost use Rattle.wide.specs.Words.{value};
 
-use crate::{FeeFrac, Ordering};
+use crate::FeeFrac;
+use std::cmp::Ordering;
 use wide::{Wide, mul_wide};
 
 // a.fee × b.size against b.fee × a.size. The wide way stands in two places: so the compiler leaves it a call, and puts the rest, which
@@ -44,6 +45,7 @@ fn compare_narrow(a: FeeFrac, b: FeeFrac) -> Ordering
 {
     let x = a.fee * (b.size as i64);
     let y = b.fee * (a.size as i64);
+    // stays: `x.cmp(&y)` was tried, and a loop that swaps by `higher_rate` took a third longer.
     if y < x {
         return Ordering::Greater;
     }
@@ -62,7 +64,7 @@ fn compare_wide(a: FeeFrac, b: FeeFrac) -> Ordering
     let bf = b.fee;
     if af < 0 {
         if bf < 0 {
-            return compare_words(product(bf, a.size), product(af, b.size));
+            return product(bf, a.size).cmp(&product(af, b.size));
         }
         if both_zero(product(af, b.size), product(bf, a.size)) {
             return Ordering::Equal;
@@ -75,46 +77,18 @@ fn compare_wide(a: FeeFrac, b: FeeFrac) -> Ordering
         }
         return Ordering::Greater;
     }
-    compare_words(product(af, b.size), product(bf, a.size))
+    product(af, b.size).cmp(&product(bf, a.size))
 }
 
 // The fee without its sign, times the size.
 fn product(fee: i64, size: u64) -> Wide
     ensures { value result ≡ nat_abs fee * size }
 {
-    mul_wide(magnitude(fee), size)
-}
-
-// The size of a number without its sign.
-fn magnitude(z: i64) -> u64
-    ensures { result ≡ nat_abs z }
-{
-    if z < 0 {
-        // -(z + 1) fits where -z would not, at the lowest i64.
-        let below = 0 - (z + 1);
-        return (below as u64) + 1;
-    }
-    z as u64
-}
-
-// The order of two products.
-fn compare_words(a: Wide, b: Wide) -> Ordering
-    ensures { result ≡ size_order (value a) (value b) }
-{
-    if b.is_below(a) {
-        return Ordering::Greater;
-    }
-    if a.is_below(b) {
-        return Ordering::Less;
-    }
-    Ordering::Equal
+    mul_wide(fee.unsigned_abs(), size)
 }
 
 fn both_zero(a: Wide, b: Wide) -> bool
-    ensures { result ≡ eqb (value a + value b) 0 }
+    ensures { result ≡ nat_eq (value a + value b) 0 }
 {
-    if a.is_zero() {
-        return b.is_zero();
-    }
-    false
+    a == Wide::ZERO && b == Wide::ZERO
 }

@@ -15,11 +15,8 @@ pub fn set_feerate(fees: &[i64], sizes: &[u64], set: TxSet) -> FeeFrac
     ensures { result ≡ total fees.now sizes.now (members set) }
 {
     let mut sum = FeeFrac::zero();
-    let mut rest = set;
     // `sum` is that of the members passed.
-    while !rest.is_empty() {
-        let i = rest.lowest();
-        rest = rest.without_lowest();
+    for i in set.iter() {
         sum = sum.add(FeeFrac::at(fees, sizes, i));
     }
     sum
@@ -30,11 +27,9 @@ pub fn list_feerate(fees: &[i64], sizes: &[u64], list: &[usize]) -> FeeFrac
     ensures { result ≡ total fees.now sizes.now list.now }
 {
     let mut sum = FeeFrac::zero();
-    let mut i: usize = 0;
-    // `sum` is that of the first i.
-    while i < list.len() {
-        sum = sum.add(FeeFrac::at(fees, sizes, list[i]));
-        i += 1;
+    // `sum` is that of those passed.
+    for &t in list {
+        sum = sum.add(FeeFrac::at(fees, sizes, t));
     }
     sum
 }

@@ -1,6 +1,6 @@
 -- A property of the numbers of a range: how many have it, whether any or all have it, which is the first, which they are.
 -- Each definition looks at the numbers i, i + 1, .., i + k - 1 in this order. Assumes nothing.
-use Rattle.std.specs.Prelude.{ℕ, zero, suc, ◌+◌, Bool, true, false, cond, ◌&&◌, ◌||◌, List, [], ◌∷◌}
+use Rattle.std.specs.Prelude.{ℕ, zero, suc, ◌+◌, Bool, true, false, cond, ◌&&◌, ◌||◌, List, [], ◌∷◌, ltb, Option, Some, None}
 
 -- the list with one more at its head where the test holds
 abbrev pub keep_if : {A : Type 0} → Bool → A → List A → List A
@@ -36,3 +36,7 @@ first_from f (suc k) i = cond (f i) i (first_from f k (suc i))
 unfoldable pub list_from : (ℕ → Bool) → ℕ → ℕ → List ℕ
 list_from f zero i = []
 list_from f (suc k) i = keep_if (f i) i (list_from f k (suc i))
+
+-- a number below n as one that was found; what is not below n says that none was
+abbrev pub some_below : ℕ → ℕ → Option ℕ
+some_below n i = cond (ltb i n) (Some i) None

@@ -2,7 +2,7 @@
 use Prim.Native.Nat.{ℕ, suc, ◌+◌, ◌≤◌, ◌<◌}
 use native.Mathlib.Numerals.{add-one}
 use native.Mathlib.Omega.{arith}
-use mathlib.Core.Path.{◌≡◌, refl}
+use mathlib.Core.Path.{◌≡◌, refl, sym, ap, ◌∙◌}
 use mathlib.Core.Bool.{true, false, not}
 use mathlib.Core.List.{List}
 use lib.ListN.{length, drop, get_or, drop_of_length-le}
@@ -13,8 +13,11 @@ use lib.Signed.{le_z, lt_z}
 use mir.Syntax.{w64}
 use mir.Val.{SFits, to_z, of_z}
 use mir.ValLaws.{to_z-of_z}
-use borrow.Author.Tests.{ltb-true, ltb-false, lt-ltb, le-ltb, lt-leb, le-leb}
+use borrow.Author.Tests.{ltb-true, ltb-false, le-ltb, lt-leb, le-leb}
+use Rattle.std.specs.Prelude.{Option, is_some}
+use Rattle.lists.specs.Below.{some_below}
 use Rattle.lists.proofs.Bools.{cases}
+use Rattle.lists.proofs.Found.{found_below, none_past}
 use Rattle.refusals.specs.Refusals.{in_range, first_outside, any_outside}
 
 -- ---- the range of a fee
@@ -70,9 +73,15 @@ module _ {fs : List ℤ} {i : ℕ} (p : Passed fs i) where
       let s : first_outside (drop i fs) ≡ 0 = rw (drop_of_length-le fs h) in
       omega (arith, p.first)
 
-pub outside_some : (fs : List ℤ) → first_outside fs < length fs → any_outside fs ≡ true
+-- a fee is outside its range exactly where one was found
+pub outside_found : (fs : List ℤ) {at : Option ℕ} → at ≡ some_below (length fs) (first_outside fs) → any_outside fs ≡ is_some at
 unfolding any_outside
-outside_some fs h = lt-ltb (first_outside fs) (length fs) h
+outside_found fs e =
+    let n = length fs in
+    let i = first_outside fs in
+    rw e (cases (ltb i n)
+    (λ t. t ∙ ap is_some (sym (found_below n i (ltb-true i n t))))
+    (λ f. f ∙ ap is_some (sym (none_past n i (ltb-false i n f)))))
 
 pub outside_none : (fs : List ℤ) → length fs ≤ first_outside fs → any_outside fs ≡ false
 unfolding any_outside

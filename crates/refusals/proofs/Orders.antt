@@ -28,10 +28,10 @@ pub seen_none : (n : ℕ) (order : List ℕ) (seen : TxSet) → n ≤ positions 
 unfolding all_of distinct elem any_of
 seen_none n order seen h e f = record { small = h; long = e; within = omega arith; below = refl; once = refl; are = λ p _. f p }
 
-module _ {n : ℕ} {order : List ℕ} {seen : TxSet} {i : ℕ} (s : Seen n order seen i) (h : i < n) where
+module _ {n : ℕ} {order : List ℕ} {seen : TxSet} {i : ℕ} (s : Seen n order seen i) (h : i < length order) where
   -- the first i entries and the next
   next : take (i + 1) order ≡ take i order ++ (get_or order i 0 ∷ [])
-  next = rw (add-one, take-suc order i 0 (omega (arith, s.long)))
+  next = rw (add-one, take-suc order i 0 h)
 
   pub seen_more : (t : TxSet) → get_or order i 0 < n → mem seen (get_or order i 0) ≡ false
       → ((q : ℕ) → mem t q ≡ (mem seen q || (is_position q && eqb q (get_or order i 0)))) → Seen n order t (i + 1)
@@ -39,7 +39,7 @@ module _ {n : ℕ} {order : List ℕ} {seen : TxSet} {i : ℕ} (s : Seen n order
   seen_more t l e f = record {
     small = s.small;
     long = s.long;
-    within = omega arith;
+    within = omega (arith, s.long);
     below = ap (all_of (λ p. ltb p n)) next ∙ all_append (λ p. ltb p n) (take i order) (get_or order i 0 ∷ [])
         ∙ ap₂ ◌&&◌ s.below (ap (λ (b : Bool). b && true) (lt-ltb (get_or order i 0) n l));
     once = ap distinct next ∙ distinct_snoc (take i order) (get_or order i 0)
@@ -55,7 +55,7 @@ module _ {n : ℕ} {order : List ℕ} {seen : TxSet} {i : ℕ} (s : Seen n order
   seen_outside l = sym (rw (ne, and-false (eqb (length order) n)) (and-false (leb n positions)))
     where
       ne : all_of (λ p. ltb p n) order ≡ false
-      ne = ap (all_of (λ p. ltb p n)) (sym (take-append-drop i order) ∙ ap (λ (l : List ℕ). take i order ++ l) (drop-cons order i 0 (omega (arith, s.long))))
+      ne = ap (all_of (λ p. ltb p n)) (sym (take-append-drop i order) ∙ ap (λ (l : List ℕ). take i order ++ l) (drop-cons order i 0 h))
           ∙ all_append (λ p. ltb p n) (take i order) (get_or order i 0 ∷ drop (suc i) order)
           ∙ ap₂ ◌&&◌ s.below (ap (λ (b : Bool). b && all_of (λ p. ltb p n) (drop (suc i) order)) (le-ltb (get_or order i 0) n l))
 
@@ -71,7 +71,7 @@ module _ {n : ℕ} {order : List ℕ} {seen : TxSet} {i : ℕ} (s : Seen n order
           (ap distinct next ∙ distinct_snoc (take i order) (get_or order i 0)
           ∙ ap (λ (b : Bool). distinct (take i order) && not b) (sym (s.are (get_or order i 0) l) ∙ e) ∙ and-false (distinct (take i order)))
 
-pub seen_all : {n : ℕ} {order : List ℕ} {seen : TxSet} {i : ℕ} → Seen n order seen i → n ≤ i → true ≡ (leb n positions && is_order n order)
+pub seen_all : {n : ℕ} {order : List ℕ} {seen : TxSet} {i : ℕ} → Seen n order seen i → length order ≤ i → true ≡ (leb n positions && is_order n order)
 unfolding is_order
 seen_all {n} {order} {seen} {i} s h =
     let e : i ≡ length order = omega (arith, s.long, s.within) in

@@ -1,10 +1,12 @@
 -- Document 01, "Numbers and refusals": what a call answers, the first true condition of a list, and the conditions that the
 -- cluster calls share. Assumes nothing.
-use Rattle.std.specs.Prelude.{ℕ, suc, Bool, cond, not, ◌&&◌, ◌||◌, List, [], ◌∷◌, length, eqb, ltb, ℤ, pos, negsuc}
+use Rattle.std.specs.Prelude.{ℕ, suc, Bool, cond, not, ◌&&◌, ◌||◌, List, [], ◌∷◌, length, eqb, ltb, ℤ, pos, negsuc, Result, Ok, Err}
 use Rattle.std.specs.Int.Signed.{le_z}
 use Rattle.lists.specs.Lists.{all_of, distinct}
 use Rattle.txset.specs.Sets.{positions}
 use Rattle.refusals.specs.declared.Reply.{Reply}
+use Rattle.refusals.specs.declared.Refusal.{Refusal}
+use Rattle.refusals.specs.declared.Refusal.TheVariants.{LengthsDiffer, TooManyMembers, OutOfRange, Cycle, NotAnOrder, TxidPresent, NoSlotFree, ClusterTooMany, ClusterTooLarge, TxidAbsent, RoomTooShort, TableIllFormed, InputIllFormed}
 
 -- a line of the table: its number, and whether its condition holds
 pub record Line : Type 0 where
@@ -34,6 +36,32 @@ refusal k = record { answer = k; written = 0 }
 -- "Success reports how many places it wrote from the room's start"
 abbrev pub success : ℕ → Reply
 success n = record { answer = 0; written = n }
+
+-- "a definition gives this paper's number and values for each of the enum's cases": the number of each refusal
+abbrev pub number_of : Refusal → ℕ
+number_of LengthsDiffer = 1
+number_of TooManyMembers = 2
+number_of OutOfRange = 3
+number_of Cycle = 4
+number_of NotAnOrder = 5
+number_of TxidPresent = 6
+number_of NoSlotFree = 7
+number_of ClusterTooMany = 8
+number_of ClusterTooLarge = 9
+number_of TxidAbsent = 10
+number_of RoomTooShort = 11
+number_of TableIllFormed = 12
+number_of InputIllFormed = 13
+
+-- the reply of a call that writes places
+abbrev pub reply_from : Result ℕ Refusal → Reply
+reply_from (Ok n) = success n
+reply_from (Err r) = refusal (number_of r)
+
+-- the answer of a call that writes none: "0 is success"
+abbrev pub answer_from : {A : Type 0} → Result A Refusal → ℕ
+answer_from (Ok a) = 0
+answer_from (Err r) = number_of r
 
 -- 1: "fees, sizes and parents differ in length": of two lengths, and of three
 abbrev pub differ : ℕ → ℕ → Bool

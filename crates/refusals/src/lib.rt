@@ -3,38 +3,38 @@
 
 #![tactic(auto)]
 
-ghost use Rattle.std.specs.Prelude.{◌≡◌, ◌&&◌, leb};
+ghost use Rattle.std.specs.Prelude.{◌≡◌, ◌&&◌, leb, length};
+ghost use Rattle.lists.specs.Below.{some_below};
 ghost use Rattle.txset.specs.Sets.{positions};
-ghost use Rattle.refusals.specs.Refusals.{refusal, success, in_range, first_outside, is_order};
+ghost use Rattle.refusals.specs.Refusals.{number_of, reply_from, answer_from, in_range, first_outside, is_order};
 
 use txset::{POSITIONS, TxSet};
 
-// The refusals of document 01, by their numbers.
-pub const LENGTHS_DIFFER: u64 = 1;
+// The refusals of document 01, in the order of their numbers.
+#[derive(Clone, Copy, Debug, PartialEq, Eq)]
+pub enum Refusal {
+    LengthsDiffer = 1,
+    TooManyMembers,
+    OutOfRange,
+    Cycle,
+    NotAnOrder,
+    TxidPresent,
+    NoSlotFree,
+    ClusterTooMany,
+    ClusterTooLarge,
+    TxidAbsent,
+    RoomTooShort,
+    TableIllFormed,
+    InputIllFormed,
+}
 
-pub const TOO_MANY_MEMBERS: u64 = 2;
-
-pub const OUT_OF_RANGE: u64 = 3;
-
-pub const CYCLE: u64 = 4;
-
-pub const NOT_AN_ORDER: u64 = 5;
-
-pub const TXID_PRESENT: u64 = 6;
-
-pub const NO_SLOT_FREE: u64 = 7;
-
-pub const CLUSTER_TOO_MANY: u64 = 8;
-
-pub const CLUSTER_TOO_LARGE: u64 = 9;
-
-pub const TXID_ABSENT: u64 = 10;
-
-pub const ROOM_TOO_SHORT: u64 = 11;
-
-pub const TABLE_ILL_FORMED: u64 = 12;
-
-pub const INPUT_ILL_FORMED: u64 = 13;
+impl Refusal {
+    pub fn number(self) -> u64
+        ensures { result ≡ number_of self }
+    {
+        self as u64
+    }
+}
 
 // 0 and the number of places written from the room's start, or the refusal's number and 0.
 #[repr(C)]
@@ -44,23 +44,28 @@ pub struct Reply {
     pub written: usize,
 }
 
-impl Reply {
-    pub fn refused(number: u64) -> Reply
-        ensures { result ≡ refusal number }
-    {
-        Reply {
-            answer: number,
-            written: 0,
+// What C is answered: 0 and the places, or the number and 0.
+impl From<Result<usize, Refusal>> for Reply {
+    ghost from_gives = { λ r reply. reply ≡ reply_from r };
+
+    fn from(outcome: Result<usize, Refusal>) -> Reply {
+        match outcome {
+            Ok(written) => Reply { answer: 0, written },
+            Err(refusal) => Reply {
+                answer: refusal.number(),
+                written: 0,
+            },
         }
     }
+}
 
-    pub fn wrote(places: usize) -> Reply
-        ensures { result ≡ success places }
-    {
-        Reply {
-            answer: 0,
-            written: places,
-        }
+// The same of a call that writes no places: 0, or the number.
+pub fn answer(outcome: Result<(), Refusal>) -> u64
+    ensures { result ≡ answer_from outcome }
+{
+    match outcome {
+        Ok(()) => 0,
+        Err(refusal) => refusal.number(),
     }
 }
 
@@ -74,20 +79,17 @@ pub fn fee_in_range(fee: i64) -> bool
     fee <= 4_200_000_000_000_000
 }
 
-// The lowest position whose fee is outside its range, or the number of fees.
-pub fn first_outside(fees: &[i64]) -> usize
-    ensures { result ≡ first_outside fees.now }
+// The lowest position whose fee is outside its range, if there is one.
+pub fn first_outside(fees: &[i64]) -> Option<usize>
+    ensures { result ≡ some_below (length fees.now) (first_outside fees.now) }
 {
-    let mut i: usize = 0;
     // No fee before i is outside.
-    while i < fees.len() {
-        let fee = fees[i];
-        if !fee_in_range(fee) {
-            return i;
+    for (i, fee) in fees.iter().enumerate() {
+        if !fee_in_range(*fee) {
+            return Some(i);
         }
-        i += 1;
     }
-    i
+    None
 }
 
 // Whether a list has each of the positions 0..n-1 once; false where n is above POSITIONS.
@@ -101,10 +103,8 @@ pub fn is_order(n: usize, order: &[usize]) -> bool
         return false;
     }
     let mut seen = TxSet::empty();
-    let mut i: usize = 0;
-    // The first i are positions below n, no two alike, and `seen` has them.
-    while i < n {
-        let p = order[i];
+    // Those passed are positions below n, no two alike, and `seen` has them.
+    for &p in order {
         if n <= p {
             return false;
         }
@@ -112,7 +112,6 @@ pub fn is_order(n: usize, order: &[usize]) -> bool
             return false;
         }
         seen = seen.insert(p);
-        i += 1;
     }
     true
 }

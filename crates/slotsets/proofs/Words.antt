@@ -2,9 +2,9 @@
 -- Assumes nothing.
 use mathlib.Core.Path.{◌≡◌, refl, sym, ap, ap₂, ◌∙◌}
 use mathlib.Core.Bool.{Bool, true, false, cond, not, ◌&&◌, ◌||◌, and-true, and-false, or-false}
-use mathlib.Core.Logic.{◌⊎◌, ⊎_elim}
+use mathlib.Core.Logic.{⊎_elim}
 use mathlib.Core.List.{List}
-use Prim.Native.Nat.{ℕ, ◌+◌, ◌-◌, ◌*◌, ◌/◌, ◌%◌, ◌^◌, ◌≤◌, ◌<◌}
+use Prim.Native.Nat.{ℕ, ◌+◌, ◌-◌, ◌*◌, ◌/◌, ◌%◌, ◌^◌, ◌≤◌, ◌<◌, min}
 use native.Mathlib.Omega.{arith}
 use lib.Dec.{eqb, ltb}
 use lib.ListN.{length, get_or, set, length-set}
@@ -12,7 +12,10 @@ use lib.Seq.{get_or-set_same, get_or-set_other}
 use lib.Bits.{bit_and, bit_or}
 use lib.Pow.{pow-lt}
 use borrow.Author.Tests.{ne_eqb, lt-ltb, le-ltb, ltb-true, eqb-true, eqb-false}
+use Rattle.std.specs.Prelude.{Some, None}
+use Rattle.lists.specs.Below.{some_below}
 use Rattle.lists.proofs.Bools.{asked}
+use Rattle.lists.proofs.Found.{found_below, none_past}
 use Rattle.lists.proofs.Numbers.{lt_or_ge, ltb_same, eqb_same}
 use Rattle.lists.proofs.Below.{First, first_unique, first_is}
 use Rattle.txset.specs.Sets.{has, has_in}
@@ -157,13 +160,13 @@ abbrev pub joined : List ℕ → List ℕ → ℕ → Bool
 joined old more i = has_in old i || (ltb i (span old) && has_in more i)
 
 -- past the words of the one or of the other there is nothing to add
-pub joined_past : (old more : List ℕ) (j : ℕ) → (length old ≤ j) ⊎ (length more ≤ j) → (i : ℕ) → 64 * j ≤ i → joined old more i ≡ has_in old i
+pub joined_past : (old more : List ℕ) (j : ℕ) → min (length old) (length more) ≤ j → (i : ℕ) → 64 * j ≤ i → joined old more i ≡ has_in old i
 joined_past old more j h i l =
     ap (λ (b : Bool). has_in old i || b)
     (⊎_elim
+    (λ (m : j < length old). ap (λ (b : Bool). ltb i (span old) && b) (has_in_past more i (omega arith)) ∙ and-false (ltb i (span old)))
     (λ (m : length old ≤ j). ap (λ (b : Bool). b && has_in more i) (le-ltb i (span old) (omega arith)))
-    (λ (m : length more ≤ j). ap (λ (b : Bool). ltb i (span old) && b) (has_in_past more i (omega arith)) ∙ and-false (ltb i (span old)))
-    h)
+    (lt_or_ge j (length old)))
     ∙ or-false (has_in old i)
 
 pub joined_turn : {j : ℕ} {old new : List ℕ} (more : List ℕ) → Upto (joined old more) j old new → j < length old
@@ -191,29 +194,31 @@ none_more ws j e h i l =
     (λ (m : 64 * j ≤ i). in_word ws j i m (omega arith) ∙ ap (λ (w : ℕ). has w (i - 64 * j)) e ∙ has_nil (i - 64 * j))
     (lt_or_ge i (64 * j))
 
--- nor in the words after the last
-pub none_past : (ws : List ℕ) (j k : ℕ) → length ws ≤ j → NoneTo j ws → NoneTo k ws
-none_past ws j k l h i m = ⊎_elim (h i) (λ (n : 64 * j ≤ i). has_in_past ws i (omega arith)) (lt_or_ge i (64 * j))
-
-pub lowest_none : (ws : List ℕ) (j : ℕ) → 16 ≤ j → NoneTo j ws → capacity ≡ lowest_in ws
+-- none in the words that a set of slots has, as far as there are any: there is no lowest
+pub lowest_none : (ws : List ℕ) (j : ℕ) → min (length ws) 16 ≤ j → NoneTo j ws → None ≡ some_below capacity (lowest_in ws)
 unfolding lowest_in
 lowest_none ws j m h =
-    sym
-    (first_unique (has_in ws) capacity 0 capacity
-    (record { from = omega arith; to = omega arith; before = λ i a b. h i (omega arith); at = λ l. absurd (omega arith) }))
+    let past : (i : ℕ) → i < capacity → has_in ws i ≡ false =
+    λ i l. ⊎_elim (h i) (λ (n : 64 * j ≤ i). has_in_past ws i (omega arith)) (lt_or_ge i (64 * j)) in
+    let e : lowest_in ws ≡ capacity =
+    first_unique (has_in ws) capacity 0 capacity
+    (record { from = omega arith; to = omega arith; before = λ i a b. past i (omega arith); at = λ l. absurd (omega arith) }) in
+    sym (none_past capacity (lowest_in ws) (omega arith))
 
-pub lowest_at : (ws : List ℕ) (j t : ℕ) → j < 16 → t < 64 → First (has (get_or ws j 0)) 64 0 t → NoneTo j ws → 64 * j + t ≡ lowest_in ws
+pub lowest_at : (ws : List ℕ) (j t : ℕ) → j < 16 → t < 64 → First (has (get_or ws j 0)) 64 0 t → NoneTo j ws
+    → Some (64 * j + t) ≡ some_below capacity (lowest_in ws)
 unfolding lowest_in
 lowest_at ws j t l m f h =
-    sym
-    (first_unique (has_in ws) capacity 0 (64 * j + t)
+    let e : lowest_in ws ≡ 64 * j + t =
+    first_unique (has_in ws) capacity 0 (64 * j + t)
     (record {
       from = omega arith;
       to = omega arith;
       before = λ i a b.
           ⊎_elim (h i) (λ (k : 64 * j ≤ i). in_word ws j i k (omega arith) ∙ f.before (i - 64 * j) (omega arith) (omega arith)) (lt_or_ge i (64 * j));
       at = λ k. sym (word_in ws j t m) ∙ f.at (omega arith);
-    }))
+    }) in
+    ap (λ (n : ℕ). Some n) (sym e) ∙ sym (found_below capacity (lowest_in ws) (omega arith))
 
 -- it is a member where there is one, and where there is none no slot is
 pub lowest_has : (ws : List ℕ) → lowest_in ws < capacity → has_in ws (lowest_in ws) ≡ true

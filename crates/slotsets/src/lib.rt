@@ -4,6 +4,7 @@
 #![tactic(auto)]
 
 ghost use Rattle.std.specs.Prelude.{◌≡◌, not, ◌&&◌, ◌||◌, ℕ, eqb, ltb, length};
+ghost use Rattle.lists.specs.Below.{some_below};
 ghost use Rattle.txset.specs.Sets.{has_in};
 ghost use Rattle.slotsets.specs.SlotSets.{capacity, span, lowest_in};
 
@@ -30,8 +31,7 @@ pub fn insert(set: &mut [u64], a: usize)
 {
     let j = a / 64;
     if j < set.len() {
-        let w = set[j] | 1u64 << (a % 64);
-        set[j] = w;
+        set[j] |= 1u64 << (a % 64);
     }
 }
 
@@ -41,8 +41,7 @@ pub fn remove(set: &mut [u64], a: usize)
 {
     let j = a / 64;
     if j < set.len() {
-        let w = set[j] & !(1u64 << (a % 64));
-        set[j] = w;
+        set[j] &= !(1u64 << (a % 64));
     }
 }
 
@@ -51,48 +50,31 @@ pub fn join(set: &mut [u64], more: &[u64])
     ensures set_len_unchanged { length set.new ≡ length set.old }
     ensures by_index { (i : ℕ) → has_in set.new i ≡ (has_in set.old i || (ltb i (span set.old) && has_in more.now i)) }
 {
-    let mut j: usize = 0;
-    while j < set.len() {
-        if more.len() <= j {
-            return;
-        }
-        let w = set[j] | more[j];
-        set[j] = w;
-        j += 1;
+    for j in 0..set.len().min(more.len()) {
+        set[j] |= more[j];
     }
 }
 
-// The lowest member of the slots that a pool can have, or CAPACITY where there is none.
-pub fn lowest(set: &[u64]) -> usize
-    ensures { result ≡ lowest_in set.now }
+// The lowest member of the slots that a pool can have.
+pub fn lowest(set: &[u64]) -> Option<usize>
+    ensures { result ≡ some_below capacity (lowest_in set.now) }
 {
-    let mut j: usize = 0;
-    while j < SET_WORDS {
-        if set.len() <= j {
-            return CAPACITY;
-        }
+    for j in 0..set.len().min(SET_WORDS) {
         let w = set[j];
         if w != 0 {
-            return 64 * j + u64::trailing_zeros(w) as usize;
+            return Some(64 * j + u64::trailing_zeros(w) as usize);
         }
-        j += 1;
     }
-    CAPACITY
+    None
 }
 
 // The slots below n.
-pub fn below(n: usize) -> [u64; 16]
+pub fn below(n: usize) -> [u64; SET_WORDS]
     ensures { (i : ℕ) → has_in result i ≡ (ltb i capacity && ltb i n) }
 {
-    let mut all = [0u64; 16];
-    let mut j: usize = 0;
-    while j < SET_WORDS {
-        if n <= 64 * j {
-            return all;
-        }
-        let w = TxSet::full(n - 64 * j).word;
-        all[j] = w;
-        j += 1;
+    let mut all = [0u64; SET_WORDS];
+    for j in 0..SET_WORDS {
+        all[j] = TxSet::full(n.saturating_sub(64 * j)).word;
     }
     all
 }

@@ -1,13 +1,13 @@
 -- A text that is written piece by piece: what writing the rest at the present place would leave is what writing all of it would have left.
 -- Assumes nothing.
 use mathlib.Core.Path.{◌≡◌, refl, sym, ap, ◌∙◌}
-use mathlib.Core.List.{List, [], ◌∷◌, ◌++◌, append_assoc}
+use mathlib.Core.List.{List, [], ◌++◌, append_assoc}
 use Prim.Native.Nat.{ℕ, ◌+◌, ◌≤◌, ◌<◌}
 use native.Mathlib.Nat.{add_assoc, add-zero, zero-add}
-use native.Mathlib.Numerals.{add-one}
 use native.Mathlib.Omega.{arith}
-use lib.ListN.{length, take, drop, set, get_or, length-append, length-drop, take-append-drop}
-use lib.Seq.{drop-cons, set_split, take_at, drop_at, drop-drop, length-take-le}
+use lib.ListN.{length, take, drop, length-append, length-drop, take-append-drop}
+use lib.Seq.{take_at, drop_at, drop-drop, length-take-le}
+use borrow.Rule.Slice.PartMut.{put_mid}
 use borrow.Author.Tests.{le-leb, lt-leb}
 use Rattle.lists.specs.Lists.{overwrite}
 use Rattle.texts.specs.Rooms.{placed, fits, end_of, written_at, Room, Wrote, Writes}
@@ -39,6 +39,11 @@ module _ (at : ℕ) (a room : List ℕ) (h : at + length a ≤ length room) wher
       sym (drop-drop (length b) (at + length a) (placed at a room)) ∙ ap (drop (length b)) drop_placed ∙ drop-drop (length b) (at + length a) room in
       rw (take_placed, past) (simp (append_assoc, length-append, add_assoc))
 
+-- a part of the room that a text as long was copied to
+pub part_placed : (at k : ℕ) (text room part : List ℕ) → part ≡ text → k ≡ length text → put_mid at k room part ≡ placed at text room
+part_placed at k text room part p e =
+    rw (p, e) (ap (λ (l : List ℕ). take at room ++ (text ++ l)) (drop-drop (length text) at room))
+
 -- ---- what is left to write
 
 -- of the text `all`, that goes to `from` on, `rest` is left, and goes to `at` on
@@ -65,20 +70,6 @@ next piece rest {at = at} {new = new} {newer = newer} l writes =
       ends = omega (arith, l.ends, w.ends, length-append piece rest);
       same = rw (w.are, w.ends) (placed_join at piece new r.fits rest ∙ l.same);
     }
-
--- one byte was written
-byte : (x : ℕ) {at : ℕ} (room : List ℕ) → at < length room → Wrote (x ∷ []) at room (set room at x) (at + 1)
-byte x {at} room h = record { ends = refl; are = rw add-one (set_split room at x h) }
-
--- of a list of bytes the next was written
-pub next_byte : (i : ℕ) (xs : List ℕ) {from : ℕ} {new old : List ℕ} → i < length xs
-    → Left (drop i xs) xs (from + i) from new old
-    → Left (drop (i + 1) xs) xs (from + (i + 1)) from (set new (from + i) (get_or xs i 0)) old
-next_byte i xs {from} {new} {old} h l =
-    let x : List ℕ = get_or xs i 0 ∷ [] in
-    let rest : List ℕ = drop (i + 1) xs in
-    let l' : Left (x ++ rest) xs (from + i) from new old = rw (add-one, ← drop-cons xs i 0 h) l in
-    rw (← add_assoc) (next x rest l' (λ r. byte (get_or xs i 0) new (omega arith)))
 
 -- nothing was written
 nothing : (at : ℕ) (room : List ℕ) → Wrote [] at room room at

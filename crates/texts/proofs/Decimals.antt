@@ -1,40 +1,42 @@
 -- Laws of specs/Numerals.antt: reading a plain decimal byte by byte. Assumes nothing.
-use mathlib.Core.Path.{◌≡◌, refl, ap, ◌∙◌}
+use mathlib.Core.Path.{◌≡◌, refl, ap, sym, ◌∙◌}
 use mathlib.Core.Bool.{Bool, true, false, not, ◌&&◌, and-false, and-true, or-true}
+use mathlib.Core.Logic.{⊎_elim}
 use mathlib.Core.List.{List, [], ◌∷◌}
 use Prim.Native.Nat.{ℕ, zero, suc, ◌+◌, ◌-◌, ◌*◌, ◌≤◌, ◌<◌}
 use native.Mathlib.Numerals.{add-one}
 use native.Mathlib.Omega.{arith}
-use lib.Dec.{eqb, ltb, leb}
-use lib.IntN.{pos, negsuc, ◌-ℤ◌}
+use lib.Dec.{eqb, ltb}
+use lib.IntN.{ℤ, pos, negsuc, ◌-ℤ◌}
 use lib.ListN.{length, get_or, drop, drop_of_length-le}
 use lib.Seq.{drop-cons}
 use mir.Syntax.{w64}
-use mir.Val.{SFits, to_z, of_z}
-use mir.Facts.{to_z-of_z, to_z_pos}
+use mir.Val.{SFits}
 use borrow.Author.Tests.{lt-ltb, le-leb, lt-leb, eq-eqb, ne_eqb}
+use Rattle.std.proofs.Common.{Option, Some, None, Result, Ok, Err}
+use Rattle.std.specs.Option.{SomeIff}
+use Rattle.std.specs.Result.{OkIff, result_ok}
 use Rattle.lists.specs.Lists.{all_of}
-use Rattle.texts.specs.declared.numerals.Number.TheVariants.{Value, Malformed}
-use Rattle.texts.specs.declared.numerals.Signed.TheVariants as signed
+use Rattle.lists.proofs.Numbers.{lt_or_ge}
 use Rattle.texts.specs.Numerals.{is_digit, value_from, is_plain, number_of, negative, positive, signed_of}
 
 -- ---- what is no number
 
-pub not_plain : (ds : List ℕ) → is_plain ds ≡ false → number_of ds ≡ Malformed
+pub not_plain : (ds : List ℕ) → is_plain ds ≡ false → number_of ds ≡ None
 unfolding number_of
 not_plain ds e = rw e
 
-pub too_large : (ds : List ℕ) → 18446744073709551615 < value_from 0 ds → number_of ds ≡ Malformed
+pub too_large : (ds : List ℕ) → 18446744073709551615 < value_from 0 ds → number_of ds ≡ None
 unfolding number_of
 too_large ds l = rw (lt-leb (value_from 0 ds) 18446744073709551615 l, and-false (is_plain ds))
 
-pub no_digits : (ds : List ℕ) → length ds ≡ 0 → number_of ds ≡ Malformed
+pub no_digits : (ds : List ℕ) → length ds ≡ 0 → number_of ds ≡ None
 unfolding is_plain
 no_digits [] e = not_plain [] refl
 no_digits (d ∷ ds) e = absurd (omega arith)
 
 -- a zero before another digit
-pub extra_zero : (ds : List ℕ) → 1 < length ds → get_or ds 0 0 ≡ 48 → number_of ds ≡ Malformed
+pub extra_zero : (ds : List ℕ) → 1 < length ds → get_or ds 0 0 ≡ 48 → number_of ds ≡ None
 unfolding is_plain
 extra_zero [] l e = absurd (omega arith)
 extra_zero (d ∷ []) l e = absurd (omega arith)
@@ -71,7 +73,7 @@ pub start : (text : List ℕ) → is_plain text ≡ all_of is_digit text → Spe
 start text e = record { within = omega arith; fits = omega arith; plain = e; spells = refl }
 
 module _ {text : List ℕ} {value i : ℕ} (s : Spelt text value i) where
-  pub done : length text ≤ i → number_of text ≡ Value value
+  pub done : length text ≤ i → number_of text ≡ Some value
   unfolding number_of value_from all_of
   done l =
       let e : drop i text ≡ [] = drop_of_length-le text l in
@@ -92,28 +94,25 @@ module _ {text : List ℕ} {value i : ℕ} (s : Spelt text value i) where
     next_spells = s.spells ∙ rw (add-one, drop-cons text i 0 l)
 
     -- a byte that is no digit
-    pub below_digits : byte < 48 → number_of text ≡ Malformed
-    below_digits h = not_plain text (next_plain ∙ rw (lt-leb 48 byte h))
-
-    pub above_digits : 57 < byte → number_of text ≡ Malformed
-    above_digits h = not_plain text (next_plain ∙ rw (lt-leb byte 57 h, and-false (leb 48 byte)))
+    pub no_digit : is_digit byte ≡ false → number_of text ≡ None
+    no_digit e = not_plain text (next_plain ∙ rw e)
 
     -- a digit with which the number no longer fits, and one with which it does
-    pub overflows : 18446744073709551615 < 10 * value + (byte - 48) → number_of text ≡ Malformed
+    pub overflows : 18446744073709551616 ≤ 10 * value + (byte - 48) → number_of text ≡ None
     overflows h =
         too_large text (omega (arith, next_spells, value_grows (10 * value + (byte - 48)) (drop (i + 1) text)))
 
-    pub turn : 48 ≤ byte → byte ≤ 57 → 10 * value + (byte - 48) ≤ 18446744073709551615 → Spelt text (10 * value + (byte - 48)) (i + 1)
-    turn a b h = record {
+    pub turn : is_digit byte ≡ true → 10 * value + (byte - 48) ≤ 18446744073709551615 → Spelt text (10 * value + (byte - 48)) (i + 1)
+    turn e h = record {
       within = omega arith;
       fits = h;
-      plain = next_plain ∙ rw (le-leb 48 byte a, le-leb byte 57 b);
+      plain = next_plain ∙ rw e;
       spells = next_spells;
     }
 
 -- ---- with a sign
 
-pub no_text : (text : List ℕ) → length text ≡ 0 → signed_of text ≡ signed.Malformed
+pub no_text : (text : List ℕ) → length text ≡ 0 → signed_of text ≡ None
 unfolding signed_of
 no_text [] e = refl
 no_text (b ∷ bs) e = absurd (omega arith)
@@ -128,26 +127,34 @@ unfolding signed_of
 no_minus [] n e = absurd (n refl)
 no_minus (b ∷ bs) n e = rw (ne_eqb b 45 e)
 
-pub positive_large : (v : ℕ) → 9223372036854775807 < v → positive (Value v) ≡ signed.Malformed
+positive_large : (v : ℕ) → 9223372036854775807 < v → positive (Some v) ≡ None
 positive_large v l = rw (lt-leb v 9223372036854775807 l)
 
-pub positive_fits : (v : ℕ) → v ≤ 9223372036854775807 → positive (Value v) ≡ signed.Value (to_z w64 v)
-positive_fits v l = rw (le-leb v 9223372036854775807 l, to_z_pos w64 {n = v} (omega arith))
+positive_fits : (v : ℕ) → v ≤ 9223372036854775807 → positive (Some v) ≡ Some (pos v)
+positive_fits v l = rw (le-leb v 9223372036854775807 l)
 
-pub negative_large : (v : ℕ) → 9223372036854775808 < v → negative (Value v) ≡ signed.Malformed
+negative_large : (v : ℕ) → 9223372036854775808 < v → negative (Some v) ≡ None
 negative_large v l = rw (lt-leb v 9223372036854775808 l, and-false (ltb 0 v))
 
--- -v as code finds it, by way of v - 1, which fits where v may not
-module _ (v : ℕ) (above : v ≡ 0 → ⊥) (l : v ≤ 9223372036854775808) where
-  less : (n : ℕ) → negsuc 0 -ℤ pos n ≡ negsuc n
-  less zero = refl
-  less (suc n) = ap negsuc (omega arith)
+negative_fits : (v : ℕ) → 0 < v → v ≤ 9223372036854775808 → negative (Some v) ≡ Some (negsuc (v - 1))
+negative_fits v h l = rw (lt-ltb 0 v h, le-leb v 9223372036854775808 l)
 
-  turned : negsuc 0 -ℤ to_z w64 (v - 1) ≡ negsuc (v - 1)
-  turned = rw (to_z_pos w64 {n = v - 1} (omega arith)) (less (v - 1))
+-- a number as one with a sign, where it fits
+pub positive_of : {E : Type 0} (v : ℕ) (r : Result ℤ E) → OkIff r (SFits w64 (pos v)) (pos v) → result_ok r ≡ positive (Some v)
+positive_of v (Ok z) h = rw (h.1, positive_fits v (omega (arith, h.0.sfits)))
+positive_of v (Err e) h =
+    sym (positive_large v (⊎_elim (λ l. l) (λ (g : v ≤ 9223372036854775807). absurd (h (record { sfits = omega arith }))) (lt_or_ge 9223372036854775807 v)))
 
-  pub turned_fits : SFits w64 (negsuc 0 -ℤ to_z w64 (v - 1))
-  turned_fits = rw turned (record { sfits = omega arith })
+-- zero less a number
+below : (n : ℕ) → pos 0 -ℤ pos (suc n) ≡ negsuc n
+below n = rw (lt-ltb 0 (suc n) (omega arith)) (ap negsuc (omega arith))
 
-  pub negative_fits : negative (Value v) ≡ signed.Value (to_z w64 (of_z w64 (negsuc 0 -ℤ to_z w64 (v - 1))))
-  negative_fits = rw (to_z-of_z turned_fits, turned, lt-ltb 0 v (omega arith), le-leb v 9223372036854775808 l)
+pub negative_of : (v : ℕ) (r : Option ℤ) → (v ≡ 0 → ⊥) → SomeIff r (SFits w64 (pos 0 -ℤ pos v)) (pos 0 -ℤ pos v) → r ≡ negative (Some v)
+negative_of zero r n h = absurd (n refl)
+negative_of (suc v) None n h =
+    sym (negative_large (suc v)
+    (⊎_elim (λ l. l) (λ (g : suc v ≤ 9223372036854775808). absurd (h (rw (below v) (record { sfits = omega arith })))) (lt_or_ge 9223372036854775808 (suc v))))
+negative_of (suc v) (Some z) n h =
+    let f : SFits w64 (negsuc v) = rw (below v) at h.0 in
+    let same : suc v - 1 ≡ v = omega arith in
+    rw (h.1, below v, negative_fits (suc v) (omega arith) (omega (arith, f.sfits)), same)

@@ -1,6 +1,6 @@
 -- Laws of specs/Hex.antt: a digit by its range, the bytes of a text one by one, and the digits of bytes. Assumes nothing.
 use mathlib.Core.Path.{◌≡◌, refl, sym, ap, ◌∙◌}
-use mathlib.Core.Bool.{Bool, true, false, cond, not, ◌&&◌, and-false}
+use mathlib.Core.Bool.{true, false, ◌&&◌, and-false}
 use mathlib.Core.Logic.{⊎_elim}
 use mathlib.Core.List.{List, [], ◌∷◌, ◌++◌, append-nil, append_assoc}
 use Prim.Native.Nat.{ℕ, suc, ◌+◌, ◌-◌, ◌*◌, ◌/◌, ◌%◌, ◌≤◌, ◌<◌}
@@ -9,12 +9,15 @@ use native.Mathlib.Omega.{arith}
 use lib.Dec.{eqb, leb}
 use lib.ListN.{length, get_or, take, drop, set, length-set, drop_of_length-le}
 use lib.Seq.{drop-cons, take-suc-set, take_all}
-use borrow.Author.Tests.{le-leb, lt-leb, leb-true, eq-eqb, ne_eqb, eqb-true}
+use borrow.Author.Tests.{le-leb, lt-leb, leb-true, eq-eqb, ne_eqb}
+use Rattle.std.proofs.Common.{Some, None}
 use Rattle.lists.specs.Lists.{all_of}
-use Rattle.lists.proofs.Bools.{cases, and_left, and_both, or_either}
+use Rattle.lists.specs.Below.{some_below}
+use Rattle.lists.proofs.Found.{found_below, none_past}
+use Rattle.lists.proofs.Bools.{cases, and_both, or_either}
 use Rattle.texts.specs.Hex.{is_hex_digit, hex_value, hex_digit, hex_bytes, is_hex64, hex_text}
-use Rattle.texts.specs.Rooms.{fits, end_of, written_at, Room, Wrote, Writes}
-use Rattle.texts.proofs.Append.{Left, start, next, done, Put}
+use Rattle.texts.specs.Rooms.{Room, Wrote, Writes}
+use Rattle.texts.proofs.Append.{Left, start, next, done}
 
 -- ---- what a byte stands for
 
@@ -38,6 +41,13 @@ module _ (b : ℕ) where
   pub value_high : 102 < b → hex_value b ≡ 16
   unfolding hex_value
   value_high h = rw (lt-leb b 57 (omega arith), lt-leb b 102 h, and-false (leb 48 b), and-false (leb 97 b))
+
+  -- what code answers for it
+  pub some_value : (v : ℕ) → hex_value b ≡ v → v < 16 → Some v ≡ some_below 16 (hex_value b)
+  some_value v e l = rw e (sym (found_below 16 v l))
+
+  pub no_value : hex_value b ≡ 16 → None ≡ some_below 16 (hex_value b)
+  no_value e = rw e (sym (none_past 16 16 (omega arith)))
 
   -- a digit, and a byte that is none
   pub is_digit_lem : hex_value b ≤ 15 → is_hex_digit b ≡ true
@@ -122,31 +132,11 @@ module _ {text bytes : List ℕ} {i : ℕ} (s : Spelt text bytes i) where
         sym (take_all i bytes (omega (arith, s.room))) ∙ sym (append-nil (take i bytes)) ∙ (rw none at s.spells),
       )
 
--- ---- what reading answers: the text is none of 64 digits, or its bytes were written where they fit
-
 pub bytes_length : (text : List ℕ) → length (hex_bytes text) ≡ length text / 2
 unfolding hex_bytes
 bytes_length [] = refl
 bytes_length (h ∷ []) = refl
 bytes_length (h ∷ l ∷ ds) = omega (arith, bytes_length ds)
-
-abbrev pub Answered : List ℕ → ℕ → List ℕ → List ℕ → Bool → Type 0
-Answered text at old new r =
-    (r ≡ (is_hex64 text && fits (hex_bytes text) at old)) × (new ≡ cond (is_hex64 text) (written_at (hex_bytes text) at old) old)
-
-pub not_read : (text : List ℕ) (at : ℕ) (old : List ℕ) → is_hex64 text ≡ false → Answered text at old old false
-not_read text at old e = (rw e, rw e)
-
-pub was_read : (text : List ℕ) (at end : ℕ) (old new : List ℕ) → is_hex64 text ≡ true → Put (hex_bytes text) at old new end
-    → Answered text at old new (not (eqb end at))
-unfolding is_hex64 end_of
-was_read text at end old new e p =
-    let long = eqb-true (length text) 64 (and_left (eqb (length text) 64) (all_of is_hex_digit text) e) in (
-      cases (fits (hex_bytes text) at old)
-          (λ t. rw (e, t, ne_eqb end at (λ q. omega (arith, bytes_length text, rw t at p.0))))
-          (λ t. rw (e, t, eq-eqb end at (rw t at p.0))),
-      rw e p.1,
-    )
 
 -- ---- writing: the digits of the first i bytes are written
 

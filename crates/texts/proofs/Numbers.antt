@@ -7,7 +7,8 @@ use native.Mathlib.Nat.{mul-suc}
 use native.Mathlib.Numerals.{add-one}
 use native.Mathlib.Omega.{arith}
 use lib.Dec.{eqb, leb}
-use lib.IntN.{ℤ, pos, negsuc, nat_abs}
+use lib.IntN.{ℤ, pos, negsuc}
+use Rattle.std.specs.Prelude.{unsigned_abs}
 use lib.ListN.{length, drop, get_or, length-append, drop_of_length-le}
 use lib.Seq.{drop-cons}
 use borrow.Author.Tests.{ne_eqb, le-leb, lt-leb}
@@ -98,12 +99,12 @@ module _ {f : ℕ → List ℕ} {xs : List ℕ} {most k left : ℕ} (m : Measure
 
 -- ---- a number with its sign: from zero up, and below zero
 
-pub signed_up : (z : ℤ) → Le (pos 0) z → signed z ≡ decimal (nat_abs z)
+pub signed_up : (z : ℤ) → Le (pos 0) z → signed z ≡ decimal (unsigned_abs z)
 unfolding signed
 signed_up (pos n) h = refl
 signed_up (negsuc n) h = absurd (omega arith)
 
-pub signed_down : (z : ℤ) → Lt z (pos 0) → signed z ≡ 45 ∷ decimal (nat_abs z)
+pub signed_down : (z : ℤ) → Lt z (pos 0) → signed z ≡ 45 ∷ decimal (unsigned_abs z)
 unfolding signed
 signed_down (pos n) h = absurd (omega arith)
 signed_down (negsuc n) h = refl

@@ -5,13 +5,17 @@ use mathlib.Core.Bool.{Bool, true, false, cond}
 use mathlib.Core.Logic.{◌⊎◌, inl, inr, ⊎_elim}
 use mathlib.Core.List.{List, [], ◌∷◌, ◌++◌, append-nil, append_assoc}
 use Prim.Native.Nat.{ℕ, suc, ◌+◌, ◌-◌, ◌≤◌, ◌<◌, min, suc-le-suc}
-use native.Mathlib.Nat.{add-zero, add-suc, suc-add, not-suc-le-zero, le_of_suc-le-suc}
-use native.Mathlib.Numerals.{add-one}
+use native.Mathlib.Nat.{add-zero, not-suc-le-zero, le_of_suc-le-suc}
 use native.Mathlib.Omega.{arith}
 use lib.Dec.{eqb, ltb, leb-suc-suc}
-use lib.ListN.{length, get_or, take, drop, drop_of_length-le, length-drop}
-use lib.Seq.{drop-cons, drop-drop, take_all, take-length}
-use borrow.Author.Tests.{lt-ltb, le-ltb, eq-eqb, ne_eqb}
+use lib.ListN.{length, take, drop, drop_of_length-le, length-drop}
+use lib.Seq.{drop-drop, take_all, take-length}
+use borrow.Author.Tests.{lt-ltb, le-ltb, ltb-false}
+use Rattle.std.proofs.Common.{Option}
+use Rattle.std.specs.Prelude.{◌==◌}
+use Rattle.std.specs.List.{position, position_or_len}
+use Rattle.std.specs.Option.{unwrap_or}
+use Rattle.std.proofs.lemmas.List.Recursion.{is_position_or_len}
 use Rattle.lists.proofs.Bools.{cases, cond_where}
 use Rattle.lists.proofs.Numbers.{lt_or_ge}
 use Rattle.texts.specs.Places.{before, behind, place_of, split_from, split}
@@ -53,18 +57,24 @@ before_grows b (x ∷ xs) ys h =
 
 -- ---- the place of a byte
 
-module _ (b : ℕ) (text : List ℕ) (i : ℕ) where
-  pub place_end : length text ≤ i → place_of b text i ≡ i
-  unfolding before
-  place_end l = rw (drop_of_length-le text l) (add-zero i)
+-- a search finds what stands before the byte
+before_next : (b x : ℕ) (xs : List ℕ) → length (before b (x ∷ xs)) ≡ cond (eqb x b) 0 (1 + length (before b xs))
+unfolding before
+before_next b x xs = cases (eqb x b) (λ e. rw e) (λ e. rw e (omega arith))
 
-  pub place_here : i < length text → get_or text i 0 ≡ b → place_of b text i ≡ i
-  unfolding before
-  place_here l e = rw (drop-cons text i 0 l, eq-eqb (get_or text i 0) b e) (add-zero i)
+pub before_found : (b : ℕ) (xs : List ℕ) → length (before b xs) ≡ position_or_len (λ x. eqb x b) xs
+unfolding before
+before_found b xs = is_position_or_len (λ l. length (before b l)) (λ x. eqb x b) refl (before_next b) xs
 
-  pub place_turn : i < length text → (get_or text i 0 ≡ b → ⊥) → place_of b text i ≡ place_of b text (i + 1)
-  unfolding before
-  place_turn l n = rw (drop-cons text i 0 l, ne_eqb (get_or text i 0) b n, add-one) (add-suc i _ ∙ sym (suc-add i _))
+pub found_or : (b : ℕ) (xs : List ℕ) (r : Option ℕ) → r ≡ position (λ x. x == b) xs → unwrap_or r (length xs) ≡ length (before b xs)
+found_or b xs r e =
+    cases (ltb (position_or_len (λ x. eqb x b) xs) (length xs))
+    (λ t. rw (e, t) (sym (before_found b xs)))
+    (λ t. rw (e, t) (omega (arith, before_found b xs, before_le b xs, ltb-false (position_or_len (λ x. eqb x b) xs) (length xs) t)))
+
+pub place_past : (b : ℕ) (text : List ℕ) (i : ℕ) → length text ≤ i → place_of b text i ≡ i
+unfolding before
+place_past b text i l = rw (drop_of_length-le text l) (add-zero i)
 
 -- ---- the parts between the places
 

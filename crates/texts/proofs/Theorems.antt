@@ -13,13 +13,11 @@ use lib.ListN.{length, get_or}
 use mir.Syntax.{w64}
 use mir.Val.{SFits}
 use borrow.Author.Tests.{lt-ltb, le-ltb, le-leb, eq-eqb, leb-true, ltb-true, ltb-false, eqb-true, eqb-false, not-true}
+use Rattle.std.proofs.Common.{Option, Some, None}
 use Rattle.lists.specs.Lists.{all_of}
 use Rattle.lists.proofs.Bools.{clash, cases, and_both, or_either, cond_first}
 use Rattle.lists.proofs.Lists.{all_append}
 use Rattle.lists.proofs.Numbers.{lt_or_ge}
-use Rattle.texts.specs.declared.numerals.Number.{Number}
-use Rattle.texts.specs.declared.numerals.Number.TheVariants.{Value, Malformed}
-use Rattle.texts.specs.declared.numerals.Signed.TheVariants as signed
 use Rattle.texts.specs.Numerals.{is_digit, value_from, is_plain, number_of, negative, positive, signed_of}
 use Rattle.texts.specs.Writing.{decimal_from, decimal, signed as written}
 use Rattle.texts.specs.Hex.{is_hex_digit, hex_value, hex_digit, hex_bytes, is_hex64, hex_text}
@@ -101,7 +99,7 @@ plain_unique (x ∷ ds) (y ∷ es) p q e =
     (lt_or_ge (length ds) (length es))
 
 -- so two texts that are read as the same number are the same
-pub number_unique : (ds es : List ℕ) (v : ℕ) → number_of ds ≡ Value v → number_of es ≡ Value v → ds ≡ es
+pub number_unique : (ds es : List ℕ) (v : ℕ) → number_of ds ≡ Some v → number_of es ≡ Some v → ds ≡ es
 unfolding number_of
 number_unique ds es v p q =
     let a = cond_first (is_plain ds && leb (value_from 0 ds) 18446744073709551615) p (λ e. let z : ◌≡◌ {A = ℕ} 0 1 = cc in omega arith) in
@@ -114,38 +112,38 @@ record Minus (text : List ℕ) (z : ℤ) : Type 0 where
   rest : List ℕ
   size : ℕ
   is : text ≡ 45 ∷ rest
-  read : number_of rest ≡ Value size
+  read : number_of rest ≡ Some size
   some : 0 < size
   gives : z ≡ negsuc (size - 1)
 
 record NoMinus (text : List ℕ) (z : ℤ) : Type 0 where
   size : ℕ
-  read : number_of text ≡ Value size
+  read : number_of text ≡ Some size
   gives : z ≡ pos size
 
-spelt : (text : List ℕ) (z : ℤ) → signed_of text ≡ signed.Value z → Minus text z ⊎ NoMinus text z
+spelt : (text : List ℕ) (z : ℤ) → signed_of text ≡ Some z → Minus text z ⊎ NoMinus text z
 unfolding signed_of
 spelt [] z e = let n : ◌≡◌ {A = ℕ} 0 1 = cc in absurd (omega arith)
 spelt (b ∷ bs) z e = go (eqb b 45) refl e
   where
-    below : (n : Number) → number_of bs ≡ n → b ≡ 45 → negative n ≡ signed.Value z → Minus (b ∷ bs) z
-    below Malformed r q e = let n : ◌≡◌ {A = ℕ} 0 1 = cc in absurd (omega arith)
-    below (Value v) r q e =
+    below : (n : Option ℕ) → number_of bs ≡ n → b ≡ 45 → negative n ≡ Some z → Minus (b ∷ bs) z
+    below None r q e = let n : ◌≡◌ {A = ℕ} 0 1 = cc in absurd (omega arith)
+    below (Some v) r q e =
         let p = cond_first (ltb 0 v && leb v 9223372036854775808) e (λ e. let n : ◌≡◌ {A = ℕ} 0 1 = cc in omega arith) in
         record { rest = bs; size = v; is = ap (λ (x : ℕ). x ∷ bs) q; read = r; some = ltb-true 0 v (and_both (ltb 0 v) _ p.0).0; gives = cc }
 
-    above : (n : Number) → number_of (b ∷ bs) ≡ n → positive n ≡ signed.Value z → NoMinus (b ∷ bs) z
-    above Malformed r e = let n : ◌≡◌ {A = ℕ} 0 1 = cc in absurd (omega arith)
-    above (Value v) r e =
+    above : (n : Option ℕ) → number_of (b ∷ bs) ≡ n → positive n ≡ Some z → NoMinus (b ∷ bs) z
+    above None r e = let n : ◌≡◌ {A = ℕ} 0 1 = cc in absurd (omega arith)
+    above (Some v) r e =
         let p = cond_first (leb v 9223372036854775807) e (λ e. let n : ◌≡◌ {A = ℕ} 0 1 = cc in omega arith) in
         record { size = v; read = r; gives = cc }
 
-    go : (t : Bool) → eqb b 45 ≡ t → cond t (negative (number_of bs)) (positive (number_of (b ∷ bs))) ≡ signed.Value z → Minus (b ∷ bs) z ⊎ NoMinus (b ∷ bs) z
+    go : (t : Bool) → eqb b 45 ≡ t → cond t (negative (number_of bs)) (positive (number_of (b ∷ bs))) ≡ Some z → Minus (b ∷ bs) z ⊎ NoMinus (b ∷ bs) z
     go true q e = inl (below (number_of bs) refl (eqb-true b 45 q) e)
     go false q e = inr (above (number_of (b ∷ bs)) refl e)
 
 -- two texts that are read as the same number are the same
-pub signed_unique : (ds es : List ℕ) (z : ℤ) → signed_of ds ≡ signed.Value z → signed_of es ≡ signed.Value z → ds ≡ es
+pub signed_unique : (ds es : List ℕ) (z : ℤ) → signed_of ds ≡ Some z → signed_of es ≡ Some z → ds ≡ es
 signed_unique ds es z p q =
     ⊎_elim
     (λ a. ⊎_elim (λ b. both_minus a b) (λ b. let n : ◌≡◌ {A = ℕ} 0 1 = cc (a.gives, b.gives) in absurd (omega arith)) (spelt es z q))
@@ -156,12 +154,12 @@ signed_unique ds es z p q =
     both_minus a b =
         let l : a.size - 1 ≡ b.size - 1 = cc (a.gives, b.gives) in
         let s : b.size ≡ a.size = omega (arith, a.some, b.some) in
-        a.is ∙ ap (λ (l : List ℕ). 45 ∷ l) (number_unique a.rest b.rest a.size a.read (b.read ∙ ap Value s)) ∙ sym b.is
+        a.is ∙ ap (λ (l : List ℕ). 45 ∷ l) (number_unique a.rest b.rest a.size a.read (b.read ∙ ap Some s)) ∙ sym b.is
 
     no_minus : NoMinus ds z → NoMinus es z → ds ≡ es
     no_minus a b =
         let s : b.size ≡ a.size = cc (a.gives, b.gives) in
-        number_unique ds es a.size a.read (b.read ∙ ap Value s)
+        number_unique ds es a.size a.read (b.read ∙ ap Some s)
 
 -- what was written is read as the number that it was: one digit, and one behind the digits of the tenth
 record Spelt (n : ℕ) (ds : List ℕ) : Type 0 where
@@ -207,7 +205,7 @@ spelt_from (suc fuel) n h =
     (λ e. rw e (one_digit n (ltb-true n 10 e)))
     (λ e. rw e (one_more n (decimal_from (suc fuel) (n / 10)) (ltb-false n 10 e) (spelt_from fuel (n / 10) (omega (arith, pow-suc 10 (suc fuel))))))
 
-pub decimal_back : (n : ℕ) → n < 2 ^ 64 → number_of (decimal n) ≡ Value n
+pub decimal_back : (n : ℕ) → n < 2 ^ 64 → number_of (decimal n) ≡ Some n
 unfolding number_of decimal
 decimal_back n h =
     let s = spelt_from 19 n (omega arith) in
@@ -219,7 +217,7 @@ unfolding is_plain
 no_sign [] p = clash {b = false} p refl
 no_sign (d ∷ ds) p = no_minus (d ∷ ds) (λ e. omega arith) (λ e. omega (arith, (digits d ds (plain d ds p).all).low))
 
-pub signed_back : (z : ℤ) → SFits w64 z → signed_of (written z) ≡ signed.Value z
+pub signed_back : (z : ℤ) → SFits w64 z → signed_of (written z) ≡ Some z
 unfolding written signed_of decimal
 signed_back (pos n) h =
     no_sign (decimal_from 20 n) (spelt_from 19 n (omega (arith, h.sfits))).plain

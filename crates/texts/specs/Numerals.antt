@@ -1,10 +1,6 @@
 -- Document 01, "The cluster program": the decimals of a program's input, as lists of bytes. Assumes nothing.
-use Rattle.std.specs.Prelude.{ℕ, ◌+◌, ◌-◌, ◌*◌, Bool, true, false, cond, not, ◌&&◌, ◌||◌, List, [], ◌∷◌, eqb, ltb, leb, ℤ, pos, negsuc}
+use Rattle.std.specs.Prelude.{ℕ, ◌+◌, ◌-◌, ◌*◌, Bool, true, false, cond, not, ◌&&◌, ◌||◌, List, [], ◌∷◌, eqb, ltb, leb, ℤ, pos, negsuc, Option, Some, None}
 use Rattle.lists.specs.Lists.{all_of}
-use Rattle.texts.specs.declared.numerals.Number.{Number}
-use Rattle.texts.specs.declared.numerals.Number.TheVariants.{Value, Malformed}
-use Rattle.texts.specs.declared.numerals.Signed.{Signed}
-use Rattle.texts.specs.declared.numerals.Signed.TheVariants as signed
 
 abbrev pub is_nil : {A : Type 0} → List A → Bool
 is_nil [] = true
@@ -25,39 +21,39 @@ is_plain [] = false
 is_plain (d ∷ ds) = all_of is_digit (d ∷ ds) && (not (eqb d 48) || is_nil ds)
 
 -- "others u64"
-unfoldable pub number_of : List ℕ → Number
-number_of ds = cond (is_plain ds && leb (value_from 0 ds) 18446744073709551615) (Value (value_from 0 ds)) Malformed
+unfoldable pub number_of : List ℕ → Option ℕ
+number_of ds = cond (is_plain ds && leb (value_from 0 ds) 18446744073709551615) (Some (value_from 0 ds)) None
 
 -- "`-` only on a non-zero fee; fee i64"
-abbrev pub negative : Number → Signed
-negative Malformed = signed.Malformed
-negative (Value v) = cond (ltb 0 v && leb v 9223372036854775808) (signed.Value (negsuc (v - 1))) signed.Malformed
+abbrev pub negative : Option ℕ → Option ℤ
+negative None = None
+negative (Some v) = cond (ltb 0 v && leb v 9223372036854775808) (Some (negsuc (v - 1))) None
 
-abbrev pub positive : Number → Signed
-positive Malformed = signed.Malformed
-positive (Value v) = cond (leb v 9223372036854775807) (signed.Value (pos v)) signed.Malformed
+abbrev pub positive : Option ℕ → Option ℤ
+positive None = None
+positive (Some v) = cond (leb v 9223372036854775807) (Some (pos v)) None
 
-unfoldable pub signed_of : List ℕ → Signed
-signed_of [] = signed.Malformed
+unfoldable pub signed_of : List ℕ → Option ℤ
+signed_of [] = None
 signed_of (b ∷ bs) = cond (eqb b 45) (negative (number_of bs)) (positive (number_of (b ∷ bs)))
 
 -- whether a number is of its form, and its value
-abbrev pub is_number : Number → Bool
-is_number (Value v) = true
-is_number Malformed = false
+abbrev pub is_number : Option ℕ → Bool
+is_number (Some v) = true
+is_number None = false
 
-abbrev pub number_in : Number → ℕ
-number_in (Value v) = v
-number_in Malformed = 0
+abbrev pub number_in : Option ℕ → ℕ
+number_in (Some v) = v
+number_in None = 0
 
 -- whether some texts are all numbers
 unfoldable pub are_numbers : List (List ℕ) → Bool
 are_numbers ls = all_of (λ l. is_number (number_of l)) ls
 
-abbrev pub is_signed : Signed → Bool
-is_signed (signed.Value z) = true
-is_signed signed.Malformed = false
+abbrev pub is_signed : Option ℤ → Bool
+is_signed (Some z) = true
+is_signed None = false
 
-abbrev pub signed_in : Signed → ℤ
-signed_in (signed.Value z) = z
-signed_in signed.Malformed = pos 0
+abbrev pub signed_in : Option ℤ → ℤ
+signed_in (Some z) = z
+signed_in None = pos 0

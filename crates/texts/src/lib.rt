@@ -3,7 +3,8 @@
 
 #![tactic(auto)]
 
-ghost use Rattle.std.specs.Prelude.{◌≡◌, leb, ◌+◌};
+ghost use Rattle.std.specs.Prelude.{◌≡◌, leb, ◌+◌, ◌==◌};
+ghost use Rattle.std.specs.List.{position};
 ghost use Rattle.texts.specs.Places.{place_of};
 ghost use Rattle.texts.specs.Rooms.{end_of, written_at};
 
@@ -12,23 +13,24 @@ mod numerals;
 
 pub use hex::{read_hex, write_hex};
 pub use numerals::{
-    Number, Signed, read_number, read_signed, write_decimal, write_line, write_numbers,
-    write_signed,
+    read_number, read_signed, write_decimal, write_line, write_numbers, write_signed,
 };
 
 // The place of the next such byte, or the end; past the end, `from` itself.
 pub fn place(text: &[u8], from: usize, byte: u8) -> usize
     ensures { result ≡ place_of byte text.now from }
 {
-    let mut i = from;
-    // It is none of the bytes before i.
-    while i < text.len() {
-        if text[i] == byte {
-            return i;
-        }
-        i += 1;
+    if text.len() < from {
+        return from;
     }
-    i
+    let rest = &text[from..];
+    from + find(rest, byte).unwrap_or(rest.len())
+}
+
+fn find(text: &[u8], byte: u8) -> Option<usize>
+    ensures { result ≡ position (λ x. x == byte) text.now }
+{
+    text.iter().position(|&b| b == byte)
 }
 
 // Writes bytes at a place, and answers the place behind them.
@@ -39,13 +41,9 @@ pub fn write_bytes(from: &[u8], out: &mut [u8], at: usize) -> usize
     if !fits(from.len(), at, out.len()) {
         return at;
     }
-    let mut i: usize = 0;
-    // The first i bytes are written.
-    while i < from.len() {
-        out[at + i] = from[i];
-        i += 1;
-    }
-    at + i
+    let end = at + from.len();
+    out[at..end].copy_from_slice(from);
+    end
 }
 
 // Whether so many bytes fit behind the place in a room of this length.

@@ -6,85 +6,49 @@ ghost use Rattle.texts.specs.Rooms.{end_of, written_at, Room, Wrote, Writes};
 
 use crate::write_bytes;
 
-// A number of a text, or that it is not of its form.
-#[derive(Clone, Copy)]
-pub enum Number {
-    Value(u64),
-    Malformed,
-}
-
-#[derive(Clone, Copy)]
-pub enum Signed {
-    Value(i64),
-    Malformed,
-}
-
 // A plain decimal without extra zeros that fits a u64.
-pub fn read_number(text: &[u8]) -> Number
+pub fn read_number(text: &[u8]) -> Option<u64>
     ensures { result ≡ number_of text.now }
 {
     if text.len() == 0 {
-        return Number::Malformed;
+        return None;
     }
     if 1 < text.len() {
         if text[0] == b'0' {
-            return Number::Malformed;
+            return None;
         }
     }
     let mut value: u64 = 0;
-    let mut i: usize = 0;
-    // `value` is what the first i digits spell.
-    while i < text.len() {
-        let b = text[i];
-        if b < b'0' {
-            return Number::Malformed;
+    // `value` is what the digits passed spell.
+    for &b in text {
+        if !b.is_ascii_digit() {
+            return None;
         }
-        if b'9' < b {
-            return Number::Malformed;
-        }
-        let digit = (b as u64) - 48;
-        if (u64::MAX - digit) / 10 < value {
-            return Number::Malformed;
-        }
-        value = 10 * value + digit;
-        i += 1;
+        value = value.checked_mul(10)?.checked_add(u64::from(b - b'0'))?;
     }
-    Number::Value(value)
+    Some(value)
 }
 
 // A plain decimal that fits an i64, with a minus sign only where it is not zero.
-pub fn read_signed(text: &[u8]) -> Signed
+pub fn read_signed(text: &[u8]) -> Option<i64>
     ensures { result ≡ signed_of text.now }
 {
     if text.len() == 0 {
-        return Signed::Malformed;
+        return None;
     }
     if text[0] == b'-' {
-        let Number::Value(size) = read_number(&text[1..]) else {
-            return Signed::Malformed;
-        };
-        return below_zero(size);
+        return below_zero(read_number(&text[1..])?);
     }
-    let Number::Value(size) = read_number(text) else {
-        return Signed::Malformed;
-    };
-    if 9_223_372_036_854_775_807 < size {
-        return Signed::Malformed;
-    }
-    Signed::Value(size as i64)
+    i64::try_from(read_number(text)?).ok()
 }
 
-fn below_zero(size: u64) -> Signed
-    ensures { result ≡ negative (Number.Value size) }
+fn below_zero(size: u64) -> Option<i64>
+    ensures { result ≡ negative (Some size) }
 {
     if size == 0 {
-        return Signed::Malformed;
+        return None;
     }
-    if 9_223_372_036_854_775_808 < size {
-        return Signed::Malformed;
-    }
-    let less = (size - 1) as i64;
-    Signed::Value(-1 - less)
+    0i64.checked_sub_unsigned(size)
 }
 
 pub fn write_decimal(number: u64, out: &mut [u8], at: usize) -> usize
@@ -101,14 +65,14 @@ pub fn write_signed(number: i64, out: &mut [u8], at: usize) -> usize
     ensures value { result ≡ end_of (signed number) at out.old }
     ensures out_after { out.new ≡ written_at (signed number) at out.old }
 {
+    let size = number.unsigned_abs();
     if number < 0 {
-        let less = 0 - (number + 1);
         let mut text = [0u8; 21];
         let sign = write_bytes(b"-", &mut text, 0);
-        let end = write_decimal(less as u64 + 1, &mut text, sign);
+        let end = write_decimal(size, &mut text, sign);
         return write_bytes(&text[..end], out, at);
     }
-    write_decimal(number as u64, out, at)
+    write_decimal(size, out, at)
 }
 
 // A line: its key, a number and a newline, the latter two by way of a room of their own.
@@ -151,15 +115,13 @@ fn numbers_fit(numbers: &[usize], most: usize) -> bool
     ensures { result ≡ leb (length (commas numbers.now)) most }
 {
     let mut left = most;
-    let mut k: usize = 0;
-    // The first k leave `left` of them.
-    while k < numbers.len() {
-        let len = item_len(k, numbers[k] as u64);
+    // The numbers passed leave `left` of them.
+    for (k, &number) in numbers.iter().enumerate() {
+        let len = item_len(k, number as u64);
         if left < len {
             return false;
         }
         left -= len;
-        k += 1;
     }
     true
 }
@@ -172,16 +134,16 @@ fn item_len(k: usize, number: u64) -> usize
     write_item(k, number, &mut text, 0)
 }
 
+// stays: pool_writer's write_txids loops alike, but one function for both would take a closure whose clause says what each call writes,
+// longer than this loop
 fn each_number(numbers: &[usize], out: &mut [u8], from: usize) -> usize
     requires { Room (commas numbers.now) from out.old }
     ensures { Wrote (commas numbers.now) from out.old out.new result }
 {
     let mut at = from;
-    let mut done: usize = 0;
-    // The first `done` numbers are written, up to `at`.
-    while done < numbers.len() {
-        at = write_item(done, numbers[done] as u64, out, at);
-        done += 1;
+    // The numbers passed are written, up to `at`.
+    for (done, &number) in numbers.iter().enumerate() {
+        at = write_item(done, number as u64, out, at);
     }
     at
 }

@@ -1,17 +1,20 @@
 -- Numbers of bytes, the first the highest: as many bytes compare as their numbers do; and a word that is read byte by byte.
 -- Assumes nothing.
-use Prim.Native.Nat.{ℕ, suc, ◌+◌, ◌-◌, ◌*◌, ◌^◌, ◌≤◌, ◌<◌}
-use native.Mathlib.Nat.{add-zero, le_of_lt, lt_of_lt_of_le}
+use Prim.Native.Nat.{ℕ, suc, ◌+◌, ◌-◌, min, ◌*◌, ◌^◌, ◌≤◌, ◌<◌}
+use native.Mathlib.Nat.{le_of_lt, lt_of_lt_of_le}
 use native.Mathlib.Omega.{arith}
 use mathlib.Core.Path.{◌≡◌, refl, sym, ap, ◌∙◌}
 use mathlib.Core.Bool.{true}
+use mathlib.Core.Logic.{⊎_elim}
 use mathlib.Core.List.{List, [], ◌∷◌}
 use lib.Dec.{eqb, ltb}
-use lib.ListN.{length, take, drop, get_or, drop_of_length-le}
+use lib.ListN.{length, take, drop, get_or, length-drop, length-take, drop_of_length-le}
 use lib.Seq.{drop-cons, take-nil}
 use lib.Pow.{are_bytes, pow-add, pow_mono}
 use borrow.Author.Tests.{lt-ltb, le-ltb, eq-eqb, ne_eqb, ltb-true}
 use Rattle.lists.specs.Lists.{same}
+use Rattle.std.proofs.lemmas.List.{take_all}
+use Rattle.lists.proofs.Numbers.{lt_or_ge}
 use Rattle.lists.proofs.Bools.{and_left, and_right}
 use Rattle.txids.specs.Txids.{number_of, word_at, lex_before}
 use Rattle.txids.proofs.Orders.{by_order, lex_heads, lex_tails, same_heads, same_tails}
@@ -68,18 +71,37 @@ number_same n (x ∷ xs) (y ∷ ys) h b c =
 
 -- ---- a word, byte by byte
 
--- k bytes of the word from `from` on were read and gave n: with the rest behind n it is the word
-pub record Reading (bytes : List ℕ) (from n k : ℕ) : Type 0 where
-  pub within : k ≤ 8
+-- the first k of the bytes `part` of the word from `from` on gave n: with the rest behind n it is the word
+pub record Reading (bytes part : List ℕ) (from n k : ℕ) : Type 0 where
+  pub few : length part ≤ 8
   pub small : n < 2 ^ (8 * k)
-  pub rest : number_of n (take (8 - k) (drop (from + k) bytes)) ≡ word_at bytes from
+  pub rest : number_of n (drop k part) ≡ word_at bytes from
 
-pub reading_start : (bytes : List ℕ) (from : ℕ) → Reading bytes from 0 0
-unfolding word_at
-reading_start bytes from =
-    record { within = omega arith; small = omega arith; rest = rw add-zero }
+-- the bytes of the word from p on: s is p held at the top, and f and e are where they begin and end, no further than the bytes go
+module _ (bytes : List ℕ) (p : ℕ) {s f e : ℕ} (hs : s ≡ min p 18446744073709551615) (hf : f ≡ min s (length bytes)) (he : e ≡ min (f + 8) (length bytes)) (h : length bytes ≤ 18446744073709551615) where
+  part_is : take (e - f) (drop f bytes) ≡ take 8 (drop p bytes)
+  part_is = ⊎_elim inside outside (lt_or_ge p (length bytes))
+    where
+      outside : length bytes ≤ p → take (e - f) (drop f bytes) ≡ take 8 (drop p bytes)
+      outside l =
+          let g : length bytes ≤ f = omega arith in
+          rw (drop_of_length-le bytes g, drop_of_length-le bytes l, take-nil (e - f), take-nil 8)
 
-module _ {bytes : List ℕ} {from n k : ℕ} (r : Reading bytes from n k) where
+      inside : p < length bytes → take (e - f) (drop f bytes) ≡ take 8 (drop p bytes)
+      inside l =
+          let g : f ≡ p = omega arith in
+          rw g (⊎_elim
+          (λ (m : p + 8 < length bytes). let n : e - p ≡ 8 = omega arith in rw n)
+          (λ (m : length bytes ≤ p + 8). let n : length (drop p bytes) ≤ e - p = simp length-drop (omega arith) in
+          let o : length (drop p bytes) ≤ 8 = simp length-drop (omega arith) in
+          rw (take_all _ (drop p bytes) n, take_all _ (drop p bytes) o))
+          (lt_or_ge (p + 8) (length bytes)))
+
+  pub reading_start : Reading bytes (take (e - f) (drop f bytes)) p 0 0
+  unfolding word_at
+  reading_start = rw part_is (record { few = simp length-take (omega arith); small = omega arith; rest = refl })
+
+module _ {bytes part : List ℕ} {from n k : ℕ} (r : Reading bytes part from n k) where
   -- with one byte more
   small_more : (b : ℕ) → b < 256 → n * 256 + b < 2 ^ (8 * (k + 1))
   small_more b l =
@@ -87,27 +109,18 @@ module _ {bytes : List ℕ} {from n k : ℕ} (r : Reading bytes from n k) where
       rw (e, pow-add 2 (8 * k) 8) (omega (arith, r.small))
 
   -- it fits a word
-  pub reading_fits : (b : ℕ) → k < 8 → b < 256 → n * 256 + b < 2 ^ 64
-  reading_fits b h l = lt_of_lt_of_le (small_more b l) (pow_mono {j = 64} (omega arith))
+  pub reading_fits : (b : ℕ) → k < length part → b < 256 → n * 256 + b < 2 ^ 64
+  reading_fits b h l = lt_of_lt_of_le (small_more b l) (pow_mono {j = 64} (omega (arith, r.few)))
 
-  pub reading_turn : k < 8 → from + k < length bytes → get_or bytes (from + k) 0 < 256 → Reading bytes from (n * 256 + get_or bytes (from + k) 0) (k + 1)
+  pub reading_turn : k < length part → get_or part k 0 < 256 → Reading bytes part from (n * 256 + get_or part k 0) (k + 1)
   unfolding number_of
-  reading_turn h i l =
-      let e : 8 - k ≡ suc (8 - (k + 1)) = omega arith in
-      let f : suc (from + k) ≡ from + (k + 1) = omega arith in
-      record {
-        within = omega arith;
-        small = small_more (get_or bytes (from + k) 0) l;
-        rest = rw (e, drop-cons bytes (from + k) 0 i, f) at r.rest;
-      }
+  reading_turn h l = record {
+    few = r.few;
+    small = small_more (get_or part k 0) l;
+    rest = let e : suc k ≡ k + 1 = omega arith in rw (drop-cons part k 0 h, e) at r.rest;
+  }
 
-  -- no more bytes, or all eight
-  pub reading_ended : length bytes ≤ from + k → n ≡ word_at bytes from
+  -- no more bytes
+  pub reading_done : length part ≤ k → n ≡ word_at bytes from
   unfolding number_of
-  reading_ended h = rw (drop_of_length-le bytes h, take-nil (8 - k)) at r.rest
-
-  pub reading_done : 8 ≤ k → n ≡ word_at bytes from
-  unfolding number_of
-  reading_done h =
-      let e : 8 - k ≡ 0 = omega arith in
-      rw e at r.rest
+  reading_done h = rw (drop_of_length-le part h) at r.rest

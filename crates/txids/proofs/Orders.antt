@@ -2,7 +2,7 @@
 use Prim.Native.Nat.{ℕ, ◌<◌}
 use native.Mathlib.Omega.{arith}
 use mathlib.Core.Path.{◌≡◌, refl, sym, ap, ap₂, ◌∙◌}
-use mathlib.Core.Bool.{Bool, true, false, ◌&&◌, cond, and-true}
+use mathlib.Core.Bool.{Bool, true, false, ◌&&◌, cond}
 use mathlib.Core.Logic.{⊎_elim}
 use mathlib.Core.List.{List, [], ◌∷◌, ◌++◌}
 use lib.Dec.{eqb, ltb}
@@ -41,19 +41,6 @@ module _ (x y : ℕ) (xs ys : List ℕ) where
   pub same_tails : x ≡ y → same (x ∷ xs) (y ∷ ys) ≡ same xs ys
   unfolding same
   same_tails e = ap (λ (b : Bool). b && same xs ys) (eq-eqb x y e)
-
--- the last elements decide
-pub lex_last : (x y : ℕ) → lex_before (x ∷ []) (y ∷ []) ≡ ltb x y
-unfolding lex_before
-lex_last x y =
-    by_order x y
-    (λ l. lex_heads x y [] [] (λ e. omega arith))
-    (λ l. lex_heads x y [] [] (λ e. omega arith))
-    (λ e. lex_tails x y [] [] e ∙ sym (le-ltb x y (omega arith)))
-
-pub same_last : (x y : ℕ) → same (x ∷ []) (y ∷ []) ≡ eqb x y
-unfolding same
-same_last x y = and-true (eqb x y)
 
 -- ---- a strict total order
 

@@ -3,12 +3,19 @@
 use Prim.Native.Nat.{ℕ, zero, suc, ◌+◌, ◌*◌, ◌≤◌}
 use native.Mathlib.Omega.{arith}
 use mathlib.Core.Path.{◌≡◌, refl, sym, ap, ap₂, ◌∙◌}
-use mathlib.Core.Bool.{true, false, ◌&&◌}
+use mathlib.Core.Bool.{Bool, true, false, cond, ◌&&◌, and-true}
 use mathlib.Core.List.{List, [], ◌∷◌, ◌++◌}
 use lib.Dec.{eqb, ltb}
 use lib.ListN.{length, get_or, take, drop, length-take, length-drop, take-append-drop, drop_of_length-le}
 use lib.Seq.{drop-drop}
 use lib.Pow.{are_bytes}
+use Rattle.std.proofs.lemmas.Bool.Decides.{nat_tests}
+use Rattle.std.specs.declared.cmp.Ordering.{Ordering}
+use Rattle.std.specs.declared.option.Option.{Option}
+use Rattle.std.specs.declared.option.Option.TheVariants.{Some}
+use Rattle.std.specs.Ordering.{is_lt, is_some_and, nat_cmp, partial_lt, partial_ordering_then}
+use Rattle.txids.specs.contracts.TxidPartialEq.TheImpl as eq
+use Rattle.txids.specs.contracts.TxidPartialOrd.TheImpl as ord
 use Rattle.lists.specs.Lists.{same}
 use Rattle.lists.proofs.Bools.{and_left, and_right}
 use Rattle.lists.proofs.Lists.{same_is}
@@ -86,6 +93,30 @@ pub same_bytes : (xs ys : List ℕ) → length xs ≡ 32 → length ys ≡ 32 �
     → same_txid (txid_at xs 0) (txid_at ys 0) ≡ same xs ys
 unfolding same_txid txid_at words_from
 same_bytes xs ys hx hy bx by = words_same xs ys (hx ∙ sym hy) bx by 4 0 hx
+
+-- ---- as code compares txids
+
+-- of the first words that differ
+first_decides : (x y : ℕ) (p : Option Ordering) → is_some_and is_lt (partial_ordering_then (Some (nat_cmp x y)) p) ≡ cond (eqb x y) (is_some_and is_lt p) (ltb x y)
+first_decides x y p = grind (arith, nat_tests)
+
+last_decides : (x y : ℕ) → is_lt (nat_cmp x y) ≡ cond (eqb x y) false (ltb x y)
+last_decides x y = grind (arith, nat_tests)
+
+-- `t < u`
+pub less_before : (t u : Txid) → partial_lt (ord.partial_cmp-value).it t u ≡ before t u
+unfolding before lex_before
+less_before t u =
+    first_decides t.w0 u.w0 _ ∙ behind t.w0 u.w0
+    (first_decides t.w1 u.w1 _ ∙ behind t.w1 u.w1 (first_decides t.w2 u.w2 _ ∙ behind t.w2 u.w2 (last_decides t.w3 u.w3)))
+  where
+    behind : (x y : ℕ) {b c : Bool} → b ≡ c → cond (eqb x y) b (ltb x y) ≡ cond (eqb x y) c (ltb x y)
+    behind x y e = ap (λ (b : Bool). cond (eqb x y) b (ltb x y)) e
+
+-- `t == u`
+pub equals_same : (t u : Txid) → (eq.eq-value).it t u ≡ same_txid t u
+unfolding same_txid same
+equals_same t u = ap (λ (b : Bool). eqb t.w0 u.w0 && (eqb t.w1 u.w1 && (eqb t.w2 u.w2 && b))) (sym (and-true (eqb t.w3 u.w3)))
 
 -- ---- one txid
 

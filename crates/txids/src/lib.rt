@@ -1,11 +1,12 @@
-// A txid of module 8 (document 01): 32 bytes, held as four words so that two txids are compared word by word.
+// A txid of module 8 (document 01): 32 bytes, held as four words, so that two txids are compared word by word, the first one
+// first.
 
 #![tactic(auto)]
 
-ghost use Rattle.std.specs.Prelude.{◌≡◌, ◌+◌, ◌<◌};
-ghost use Rattle.txids.specs.Txids.{word_at, txid_at, before, same_txid};
+ghost use Rattle.std.specs.Prelude.{◌≡◌, ◌+◌};
+ghost use Rattle.txids.specs.Txids.{word_at, txid_at};
 
-#[derive(Clone, Copy)]
+#[derive(Clone, Copy, PartialEq, Eq, PartialOrd, Ord)]
 pub struct Txid {
     pub w0: u64,
     pub w1: u64,
@@ -25,69 +26,26 @@ impl Txid {
             w3: word(bytes, at, 24),
         }
     }
+}
 
-    // A txid from the type that makes 32 certain.
-    pub fn of(bytes: [u8; 32]) -> Txid
-        ensures { result ≡ txid_at bytes 0 }
-    {
+// A txid from the type that makes 32 certain.
+impl From<[u8; 32]> for Txid {
+    ghost from_gives = { λ bytes r. r ≡ txid_at bytes 0 };
+
+    fn from(bytes: [u8; 32]) -> Txid {
         Txid::at(&bytes, 0)
-    }
-
-    // Whether it comes before `other`, first byte first.
-    pub fn before(self, other: Txid) -> bool
-        ensures { result ≡ before self other }
-    {
-        if self.w0 != other.w0 {
-            return self.w0 < other.w0;
-        }
-        if self.w1 != other.w1 {
-            return self.w1 < other.w1;
-        }
-        if self.w2 != other.w2 {
-            return self.w2 < other.w2;
-        }
-        self.w3 < other.w3
-    }
-
-    pub fn same(self, other: Txid) -> bool
-        ensures { result ≡ same_txid self other }
-    {
-        if self.w0 != other.w0 {
-            return false;
-        }
-        if self.w1 != other.w1 {
-            return false;
-        }
-        if self.w2 != other.w2 {
-            return false;
-        }
-        self.w3 == other.w3
     }
 }
 
 // The word of the eight bytes from `skip` past `at` on.
 fn word(bytes: &[u8], at: usize, skip: usize) -> u64
-    requires { skip < 32 }
     ensures { result ≡ word_at bytes.now (at + skip) }
 {
-    if bytes.len() <= at {
-        return 0;
-    }
-    let from = at + skip;
+    let from = at.saturating_add(skip).min(bytes.len());
+    let end = (from + 8).min(bytes.len());
     let mut n: u64 = 0;
-    let mut k: usize = 0;
-    while k < 8 {
-        if bytes.len() <= from + k {
-            return n;
-        }
-        n = n * 256 + wide(bytes[from + k]);
-        k += 1;
+    for &b in &bytes[from..end] {
+        n = n * 256 + u64::from(b);
     }
     n
-}
-
-fn wide(b: u8) -> u64
-    ensures { result ≡ b }
-{
-    b as u64
 }

@@ -5,7 +5,8 @@
 #![tactic(auto)]
 
 ghost use Rattle.std.specs.Prelude.{◌≡◌, Bool, true, false, not, ◌&&◌, ◌||◌, ℕ, eqb, ltb};
-ghost use Rattle.txset.specs.Sets.{mem, is_position, size, is_empty, is_subset, overlap, lowest_of, set_at, put_at, Joined};
+ghost use Rattle.std.specs.Iterator.{YieldsFirst, item_count};
+ghost use Rattle.txset.specs.Sets.{members, mem, is_position, size, is_empty, is_subset, overlap, lowest_of, set_at, put_at, Joined};
 
 // How many positions a set can hold.
 pub const POSITIONS: usize = 64;
@@ -115,7 +116,8 @@ impl TxSet {
         u64::count_ones(self.word) as usize
     }
 
-    // The lowest member, or POSITIONS where there is none. With `without_lowest` it walks the members upwards.
+    // The lowest member, or POSITIONS where there is none.
+    // stays: every caller has a set that is not empty, and would have a None to throw away.
     pub fn lowest(self) -> usize
         ensures { result ≡ lowest_of self }
     {
@@ -132,6 +134,13 @@ impl TxSet {
         TxSet {
             word: word & (word - 1),
         }
+    }
+
+    // The members, upwards.
+    pub fn iter(self) -> Members
+        ensures { result.rest ≡ self }
+    {
+        Members { rest: self }
     }
 
     // The i-th set of a list of sets; past its end, the empty set.
@@ -154,16 +163,37 @@ impl TxSet {
     }
 
     // Adds the set's members to the i-th of a list of sets for each i in `walk`; past the list's end, nothing.
+    // stays: it promises `Joined` for any list; depgraph's own asks that each set of the walk has a place, and tests no index.
     pub fn join(self, sets: &mut [u64], walk: TxSet)
         ensures { Joined walk self sets.old sets.new }
     {
-        let mut rest = walk;
         // The sets of those passed have taken the members of this one; all others are as they were.
-        while !rest.is_empty() {
-            let i = rest.lowest();
-            rest = rest.without_lowest();
+        for i in walk.iter() {
             let old = TxSet::at(sets, i);
             old.union(self).put(sets, i);
         }
+    }
+}
+
+// A walk over the members of a set, upwards.
+#[derive(Clone, Copy)]
+pub struct Members {
+    rest: TxSet,
+}
+
+impl Iterator for Members {
+    type Item = usize;
+
+    ghost next_gives = { YieldsFirst (λ m. members m.rest) };
+
+    ghost remaining = { item_count (λ m. members m.rest) };
+
+    fn next(&mut self) -> Option<usize> {
+        let rest = self.rest;
+        if rest.is_empty() {
+            return None;
+        }
+        self.rest = rest.without_lowest();
+        Some(rest.lowest())
     }
 }

@@ -3,8 +3,8 @@
 
 #![tactic(auto)]
 
-ghost use Rattle.std.specs.Prelude.{◌≡◌, ◌*◌, min};
-ghost use Rattle.weights.specs.Weights.{virtual_size, most, adjusted};
+ghost use Rattle.std.specs.Prelude.{◌≡◌};
+ghost use Rattle.weights.specs.Weights.{virtual_size, adjusted};
 
 #[derive(Clone, Copy)]
 pub struct RawWeight(pub u64);
@@ -13,6 +13,7 @@ pub struct RawWeight(pub u64);
 pub struct AdjustedWeight(pub u64);
 
 impl RawWeight {
+    // stays: a trait for this method and its twin below would be longer than the two.
     pub fn virtual_size(self) -> u64
         ensures { result ≡ virtual_size self.0 }
     {
@@ -28,17 +29,16 @@ impl AdjustedWeight {
     }
 }
 
-// A quarter, rounded up; a weight near 2^64 leaves no room to add 3 first.
+// A quarter, rounded up.
+#[tactic(auto, unfolding(crate::specs::Weights::virtual_size))]
 fn size_of(weight: u64) -> u64
     ensures { result ≡ virtual_size weight }
 {
-    if weight % 4 == 0 {
-        return weight / 4;
-    }
-    weight / 4 + 1
+    weight.div_ceil(4)
 }
 
-// The larger of the raw weight and what the sigops weigh.
+// The larger of the raw weight and what the sigops weigh; their product is held at 2^64 - 1.
+#[tactic(auto, unfolding(crate::specs::Weights::adjusted))]
 pub fn sigops_adjusted_weight(
     weight: RawWeight,
     sigop_cost: u64,
@@ -46,22 +46,6 @@ pub fn sigops_adjusted_weight(
 ) -> AdjustedWeight
     ensures { result ≡ adjusted weight sigop_cost bytes_per_sigop }
 {
-    let sigops = held_product(sigop_cost, bytes_per_sigop);
-    if weight.0 < sigops {
-        return AdjustedWeight(sigops);
-    }
-    AdjustedWeight(weight.0)
-}
-
-// The product, held at 2^64 - 1.
-fn held_product(a: u64, b: u64) -> u64
-    ensures { result ≡ min (a * b) most }
-{
-    if b == 0 {
-        return 0;
-    }
-    if u64::MAX / b < a {
-        return u64::MAX;
-    }
-    a * b
+    let sigops = sigop_cost.saturating_mul(bytes_per_sigop);
+    AdjustedWeight(weight.0.max(sigops))
 }

@@ -1,6 +1,8 @@
 -- A product of two words, by digits of 32 bits, and the order of two such products. Assumes nothing.
-use Rattle.std.proofs.Common.{◌≡◌, ℕ, ◌+◌, ◌*◌, ◌/◌, ◌%◌, ◌<◌, ◌≤◌, true, false, ltb, sym, ap, ◌∙◌, ⊎_elim, mul_comm, add-mul, mul-le-mul, div-add-mod', mul_right_comm, arith, le-ltb, lt-ltb}
-use Rattle.lists.proofs.Numbers.{lt_or_ge, ltb_same}
+use Rattle.std.proofs.Common.{◌≡◌, ℕ, ◌+◌, ◌*◌, ◌/◌, ◌%◌, ◌<◌, ◌≤◌, ◌&&◌, nat_eq, sym, ap, ◌∙◌, ⊎_elim, mul_comm, add-mul, mul-le-mul, div-add-mod', mul_right_comm, arith}
+use Rattle.std.proofs.lemmas.Bool.Decides.{nat_tests}
+use Rattle.std.specs.Ordering.{ordering_then, nat_cmp}
+use Rattle.lists.proofs.Numbers.{lt_or_ge}
 use Rattle.wide.specs.declared.Wide.{Wide}
 use Rattle.wide.specs.Words.{value, Carry}
 
@@ -36,14 +38,11 @@ by_digits x y = omega (arith, split x y, right (x / 4294967296), right (x % 4294
     right : (n : ℕ) → n * y ≡ 4294967296 * (n * (y / 4294967296)) + n * (y % 4294967296)
     right n = rw (mul_comm n y, mul_comm n (y / 4294967296), mul_comm n (y % 4294967296)) (split y n)
 
--- ---- the order of two numbers is that of the high words, then of the low ones
+-- ---- the order of two numbers is that of the high words, then of the low ones; they are one number where both words are the same
 
 module _ (a b : Wide) (ha : a.lo < 18446744073709551616) (hb : b.lo < 18446744073709551616) where
-  pub high_below : a.hi < b.hi → ltb (value a) (value b) ≡ true
-  high_below h = lt-ltb (value a) (value b) (omega arith)
+  pub words_order : ordering_then (nat_cmp a.hi b.hi) (nat_cmp a.lo b.lo) ≡ nat_cmp (value a) (value b)
+  words_order = grind (arith, nat_tests)
 
-  pub high_above : b.hi < a.hi → ltb (value a) (value b) ≡ false
-  high_above h = le-ltb (value a) (value b) (omega arith)
-
-  pub high_same : b.hi ≤ a.hi → a.hi ≤ b.hi → ltb a.lo b.lo ≡ ltb (value a) (value b)
-  high_same h k = ltb_same a.lo b.lo (value a) (value b) (λ l. omega arith) (λ l. omega arith)
+pub words_zero : (a : Wide) → (nat_eq a.hi 0 && nat_eq a.lo 0) ≡ nat_eq (value a) 0
+words_zero a = grind (arith, nat_tests)

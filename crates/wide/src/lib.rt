@@ -3,36 +3,23 @@
 
 #![tactic(auto)]
 
-ghost use Rattle.std.specs.Prelude.{◌≡◌, ◌+◌, ◌*◌, ◌/◌, ◌%◌, ◌<◌, min, ◌==◌, nat_lt};
+ghost use Rattle.std.specs.Prelude.{◌≡◌, ◌+◌, ◌*◌, ◌/◌, ◌%◌, ◌<◌, min, nat_lt};
 ghost use Rattle.wide.specs.Words.{value, Carry};
 
-// A number of 128 bits in two words.
-#[derive(Clone, Copy)]
+// A number of 128 bits in two words: the order of two is that of the high words, then of the low ones.
+#[derive(Clone, Copy, PartialEq, Eq, PartialOrd, Ord)]
 pub struct Wide {
     pub hi: u64,
     pub lo: u64,
 }
 
 impl Wide {
+    pub const ZERO: Wide = Wide { hi: 0, lo: 0 };
+
     pub fn is_below(self, other: Wide) -> bool
         ensures { result ≡ nat_lt (value self) (value other) }
     {
-        if self.hi < other.hi {
-            return true;
-        }
-        if other.hi < self.hi {
-            return false;
-        }
-        self.lo < other.lo
-    }
-
-    pub fn is_zero(self) -> bool
-        ensures { result ≡ (value self == 0) }
-    {
-        if self.hi != 0 {
-            return false;
-        }
-        self.lo == 0
+        self < other
     }
 }
 
@@ -63,10 +50,7 @@ pub fn mul_wide(x: u64, y: u64) -> Wide
 fn carry(sum: u64, addend: u64) -> u64
     ensures { Carry sum addend result }
 {
-    if sum < addend {
-        return 1;
-    }
-    0
+    u64::from(sum < addend)
 }
 
 // x × factor / size, rounded down and held at 2^64 - 1; 0 for size 0. The product needs no second word here: a quotient and its rest are
@@ -81,17 +65,15 @@ pub fn scaled_over(x: u64, factor: u16, size: u64) -> u64
     let part = x % size;
     let mut quotient: u64 = 0;
     let mut rest: u64 = 0;
-    let mut bits = factor as u64;
-    let mut k: usize = 0;
-    while k < 16 {
+    let mut bits = u64::from(factor);
+    for _ in 0..16_usize {
         quotient = plus(quotient, quotient, rest, rest, size);
         rest = sum_below(rest, rest, size);
         if bits / 32_768 % 2 == 1 {
             quotient = plus(quotient, whole, rest, part, size);
             rest = sum_below(rest, part, size);
         }
-        bits = bits * 2;
-        k += 1;
+        bits *= 2;
     }
     quotient
 }

@@ -1,9 +1,8 @@
-use mathlib.Core.Path.{◌≡◌, sym, ap, ◌∙◌}
-use lib.ListN.{get_or}
+use Rattle.std.proofs.Common.{◌≡◌, sym, ap, ◌∙◌, rules, get_or, length}
 use lib.IntN.{pos}
 use mir.Syntax.{w64}
 use mir.ValLaws.{to_z-of_z}
-use borrow.Author.Rules.{rules}
+use Rattle.lists.proofs.Found.{found_below, none_past}
 use Rattle.refusals.specs.Refusals.{in_range}
 use Rattle.refusals.proofs.Laws.{passed_none, passed_more, passed_stop, passed_all}
 use Rattle.refusals.proofs.first_outside.Goals as goal
@@ -15,7 +14,9 @@ tested : (c : After-fee_in_range)
 tested c = c.fee_in_range.ensures ∙ ap in_range (to_z-of_z w64 _ (search rules))
 
 pub returns-then-not-fee_in_range : goal.returns-then-not-fee_in_range
-returns-then-not-fee_in_range c = passed_stop c.loop-i.invariant c.loop-i-test.true (sym (tested c.before) ∙ c.if-not-fee_in_range.true)
+returns-then-not-fee_in_range c =
+    let is = passed_stop c.loop-i.invariant c.loop-i-test.true (sym (tested c.before) ∙ c.if-not-fee_in_range.true) in
+    sym (rw (← is) (found_below (length c.args.fees.now) c.loop-i.i c.loop-i-test.true))
 
 pub loop-i-preserved : goal.loop-i-preserved
 loop-i-preserved c = passed_more c.loop-i.invariant c.loop-i-test.true (sym (tested c.before) ∙ c.if-not-fee_in_range.false)
@@ -24,4 +25,6 @@ pub loop-i-init : goal.loop-i-init
 loop-i-init c = passed_none _
 
 pub returns : goal.returns
-returns c = passed_all c.loop-i.invariant c.loop-i-test.false
+returns c =
+    let is = passed_all c.loop-i.invariant c.loop-i-test.false in
+    sym (rw (← is) (none_past (length c.args.fees.now) c.loop-i.i c.loop-i-test.false))

@@ -1,5 +1,4 @@
 use mathlib.Core.Bool.{◌&&◌}
-use Prim.Native.Nat.{◌-◌}
 use lib.Dec.{ltb}
 use Rattle.slotsets.specs.SlotSets.{capacity}
 use Rattle.slotsets.proofs.Words.{Upto}
@@ -7,6 +6,3 @@ use Rattle.slotsets.proofs.below.Given as goal
 
 abbrev pub invariant-loop-j : goal.invariant-loop-j
 invariant-loop-j l = Upto (λ i. ltb i capacity && ltb i l.n) l.j l.initial.all l.all
-
-abbrev pub decreases-loop-j : goal.decreases-loop-j
-decreases-loop-j l = 16 - l.j

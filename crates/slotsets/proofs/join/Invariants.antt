@@ -1,10 +1,5 @@
-use Prim.Native.Nat.{◌-◌}
-use lib.ListN.{length}
 use Rattle.slotsets.proofs.Words.{Upto, joined}
 use Rattle.slotsets.proofs.join.Given as goal
 
 abbrev pub invariant-loop-j : goal.invariant-loop-j
 invariant-loop-j l = Upto (joined l.initial.set l.more) l.j l.initial.set l.set
-
-abbrev pub decreases-loop-j : goal.decreases-loop-j
-decreases-loop-j l = length l.initial.set - l.j

@@ -1,18 +1,17 @@
-use mathlib.Core.Path.{refl, sym, ◌∙◌}
-use Rattle.texts.proofs.Places.{place_end, place_here, place_turn}
+use mathlib.Core.Path.{sym, ap, ◌∙◌}
+use Prim.Native.Nat.{ℕ, ◌+◌, ◌-◌}
+use native.Mathlib.Omega.{arith}
+use lib.ListN.{length, drop, length-drop}
+use lib.Seq.{take_all}
+use Rattle.texts.proofs.Places.{found_or, place_past}
 use Rattle.texts.proofs.place.Goals as goal
 
-pub returns-then-text-i : goal.returns-then-text-i
-returns-then-text-i c = let s = c.before.before.before in
-    sym (s.loop-i.invariant ∙ place_here s.args.byte s.args.text.now s.loop-i.i c.loop-i-test.true c.if-text-i.true)
+pub returns-then-text-from : goal.returns-then-text-from
+returns-then-text-from c = sym (place_past c.args.byte c.args.text.now c.args.from (omega arith))
 
-pub loop-i-preserved : goal.loop-i-preserved
-loop-i-preserved c = let s = c.before.before.before in
-    s.loop-i.invariant ∙ place_turn s.args.byte s.args.text.now s.loop-i.i c.loop-i-test.true c.if-text-i.false
-
+-- the rest of the text is what is searched
 pub returns : goal.returns
-returns c = let s = c.before in
-    sym (s.loop-i.invariant ∙ place_end s.args.byte s.args.text.now s.loop-i.i c.loop-i-test.false)
-
-pub loop-i-init : goal.loop-i-init
-loop-i-init c = refl
+returns c =
+    let rest = take_all (length c.args.text.now - c.args.from) (drop c.args.from c.args.text.now) (simp length-drop (omega arith)) in
+    let found = found_or c.args.byte (drop c.args.from c.args.text.now) c.find.result (rw rest at c.find.ensures) in
+    ap (λ (n : ℕ). c.args.from + n) (rw rest at c.unwrap_or.ensures ∙ found)

@@ -4,4 +4,4 @@ use Rattle.feefrac.proofs.Order.{higher_greater}
 use Rattle.feefrac.proofs.FeeFrac.higher_rate.Goals as goal
 
 pub returns : goal.returns
-returns c = c.is_greater.ensures ∙ ap is_greater c.compare_rates.ensures ∙ sym (higher_greater _ _)
+returns c = c.is_gt.ensures ∙ ap is_greater c.compare_rates.ensures ∙ sym (higher_greater _ _)

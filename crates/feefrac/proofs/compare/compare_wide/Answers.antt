@@ -1,5 +1,5 @@
 use mathlib.Core.Path.{◌≡◌, sym, ap, ◌∙◌}
-use Prim.Native.Nat.{ℕ, ◌+◌, ◌*◌}
+use Prim.Native.Nat.{ℕ, ◌+◌, ◌*◌, ◌<◌}
 use native.Mathlib.Nat.{pos_of_ne-zero}
 use native.Mathlib.Omega.{arith}
 use lib.IntN.{ℤ, nat_abs}
@@ -9,9 +9,13 @@ use mir.Facts.{to_z-of_z}
 use borrow.Author.Rules.{rules}
 use borrow.Author.Tests.{eqb-true, eqb-false}
 use Rattle.feefrac.specs.Rate.{rate_order, size_order}
+use Rattle.std.specs.declared.cmp.Ordering.{Ordering}
+use Rattle.std.specs.Ordering.{ordering_then, nat_cmp}
+use Rattle.wide.specs.declared.Wide.{Wide}
 use Rattle.wide.specs.Words.{value}
+use Rattle.wide.proofs.Product.{words_order}
 use Rattle.feefrac.proofs.Signed.{less, not_less, zero_fits}
-use Rattle.feefrac.proofs.Order.{size_above, size_below, size_same, both_up, both_down, up_down, down_up}
+use Rattle.feefrac.proofs.Order.{size_above, size_below, size_same, size_cmp, both_up, both_down, up_down, down_up}
 use Rattle.feefrac.proofs.compare.compare_wide.Goals as goal
 use Rattle.feefrac.proofs.compare.compare_wide.Goals.{After-product-then-af-lt0-2, After-product-then-bf-lt0-2-2, Start}
 
@@ -27,11 +31,16 @@ module _ (p : Start) where
 read : {z : ℤ} {v : ℕ} (k : ℕ) → SFits w64 z → v ≡ nat_abs (to_z w64 (of_z w64 z)) * k → v ≡ nat_abs z * k
 read k h e = e ∙ ap (λ (y : ℤ). nat_abs y * k) (to_z-of_z h)
 
+-- std's `cmp` of two products, as the order of their numbers
+by_words : (v w : Wide) {r : Ordering} → v.lo < 18446744073709551616 → w.lo < 18446744073709551616
+    → r ≡ ordering_then (nat_cmp v.hi w.hi) (nat_cmp v.lo w.lo) → r ≡ size_order (value v) (value w)
+by_words v w h k e = e ∙ words_order v w h k ∙ size_cmp (value v) (value w)
+
 pub returns-then-bf-lt0 : goal.returns-then-bf-lt0
-returns-then-bf-lt0 c = let t = c.before.before.before in
+returns-then-bf-lt0 c = let t = c.before.before.before.before.before in
     let p = t.before.before in
     let s = p.args in
-    c.compare_words.ensures
+    by_words c.product.result c.product-then-bf-lt0.result (search rules) (search rules) c.cmp.ensures
     ∙ sym
     (both_down s.a s.b (value c.product-then-bf-lt0.result) (value c.product.result)
     (read s.b.size (fits_a p.before.before) c.product-then-bf-lt0.ensures) (read s.a.size (fits_b p.before.before) c.product.ensures)
@@ -73,10 +82,10 @@ pub returns-then-bf-lt0-2 : goal.returns-then-bf-lt0-2
 returns-then-bf-lt0-2 c = sym (is_upper c.before.before ∙ size_above (pos_of_ne-zero (eqb-false _ 0 (sym c.both_zero-then-bf-lt0-2.ensures ∙ c.if-both_zero-2.false))))
 
 pub returns : goal.returns
-returns c = let t = c.before.before.before in
+returns c = let t = c.before.before.before.before.before in
     let p = t.before.before in
     let s = p.args in
-    c.compare_words-2.ensures
+    by_words c.product-2.result c.product-3.result (search rules) (search rules) c.cmp-2.ensures
     ∙ sym
     (both_up s.a s.b (value c.product-2.result) (value c.product-3.result)
     (read s.b.size (fits_a p.before.before) c.product-2.ensures) (read s.a.size (fits_b p.before.before) c.product-3.ensures)

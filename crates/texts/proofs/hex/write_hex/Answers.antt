@@ -20,18 +20,18 @@ room : (c : Else-out-at-2)
     → (let args = c.args in Room (hex_text args.bytes.now) args.at args.out.now)
 room c = record { fits = omega (arith, text_length c.args.bytes.now) }
 
-pub loop-i-preserved : goal.loop-i-preserved
-loop-i-preserved c =
+pub loop-b-preserved : goal.loop-b-preserved
+loop-b-preserved c =
     let w = c.write_bytes-end.ensures in
-    pair_wrote c.loop-i.invariant c.loop-i-test.true c.digit.ensures c.digit-in-loop-i.ensures (writes (w.value, w.out_after))
+    pair_wrote c.loop-b.invariant c.loop-b-test.true c.digit.ensures c.digit-in-loop-b.ensures (writes (w.value, w.out_after))
 
-pub loop-i-init : goal.loop-i-init
-loop-i-init c = hex_start (room (goal.at.loop-i-init c).Else-out-at-2)
+pub loop-b-init : goal.loop-b-init
+loop-b-init c = hex_start (room (goal.at.loop-b-init c).Else-out-at-2)
 
 pub shape_of-out : goal.shape_of-out
-shape_of-out c = c.loop-i.invariant.left.long
+shape_of-out c = c.loop-b.invariant.left.long
 
 pub returns : goal.returns
 returns c =
-    let p = put (room (goal.at.returns c).Else-out-at-2) (hex_done c.loop-i.invariant c.loop-i-test.false) in
+    let p = put (room (goal.at.returns c).Else-out-at-2) (hex_done c.loop-b.invariant c.loop-b-test.false) in
     record { value = p.0; out_after = p.1 }

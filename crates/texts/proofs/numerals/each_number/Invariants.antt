@@ -1,11 +1,6 @@
-use Prim.Native.Nat.{◌-◌}
-use lib.ListN.{length}
 use Rattle.texts.specs.Writing.{decimal}
 use Rattle.texts.proofs.Numbers.{ItemsLeft}
 use Rattle.texts.proofs.numerals.each_number.Given as goal
 
 abbrev pub invariant-loop-done : goal.invariant-loop-done
 invariant-loop-done l = ItemsLeft decimal l.numbers l.done l.at l.from l.out l.initial.out
-
-abbrev pub decreases-loop-done : goal.decreases-loop-done
-decreases-loop-done l = length l.numbers - l.done

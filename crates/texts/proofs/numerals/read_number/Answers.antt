@@ -1,31 +1,41 @@
-use mathlib.Core.Path.{sym}
+use mathlib.Core.Path.{◌≡◌, sym, ◌∙◌}
+use Prim.Native.Nat.{◌+◌, ◌-◌, ◌*◌}
 use native.Mathlib.Omega.{arith}
-use Rattle.texts.proofs.Decimals.{no_digits, extra_zero, one_byte, no_zero, start, done, below_digits, above_digits, overflows, turn}
+use lib.ListN.{get_or}
+use Rattle.texts.proofs.Decimals.{no_digits, extra_zero, one_byte, no_zero, start, done, no_digit, overflows, turn}
 use Rattle.texts.proofs.numerals.read_number.Goals as goal
 use Rattle.texts.proofs.numerals.read_number.Goals.{then-text-gt1+else-text-eq48, else-text-gt1}
-
-pub returns-then-text-eq0 : goal.returns-then-text-eq0
-returns-then-text-eq0 c = sym (no_digits c.args.text.now c.if-text-eq0.true)
 
 pub returns-then-text-eq48 : goal.returns-then-text-eq48
 returns-then-text-eq48 c = sym (extra_zero c.args.text.now (omega arith) c.if-text-eq48.true)
 
-pub loop-i-init : goal.loop-i-init
-loop-i-init c = let text = c.args.text.now in
+pub returns-then-text-eq0 : goal.returns-then-text-eq0
+returns-then-text-eq0 c = sym (no_digits c.args.text.now c.if-text-eq0.true)
+
+pub loop-b-init : goal.loop-b-init
+loop-b-init c = let text = c.args.text.now in
     start text (elim c.if-text-gt1.branch [ then-text-gt1+else-text-eq48 w ↦ no_zero text c.if-text-eq0.false w.if-text-eq48.false | else-text-gt1 w ↦ one_byte text c.if-text-eq0.false (omega arith) ])
 
-pub returns-then-b-lt48 : goal.returns-then-b-lt48
-returns-then-b-lt48 c = sym (below_digits c.loop-i.invariant c.loop-i-test.true c.if-b-lt48.true)
+pub returns-then-not-is_ascii_digit : goal.returns-then-not-is_ascii_digit
+returns-then-not-is_ascii_digit c =
+    sym (no_digit c.loop-b.invariant c.loop-b-test.true (sym c.is_ascii_digit.ensures.value ∙ c.if-not-is_ascii_digit.true))
 
-pub returns-then-b-gt57 : goal.returns-then-b-gt57
-returns-then-b-gt57 c = sym (above_digits c.loop-i.invariant c.loop-i-test.true c.if-b-gt57.true)
+pub returns-in_err-checked_mul : goal.returns-in_err-checked_mul
+returns-in_err-checked_mul c =
+    rw c.from_residual.ensures (sym (overflows c.loop-b.invariant c.loop-b-test.true (omega (arith, c.in_err-checked_mul.ensures))))
 
-pub returns-then-digit-value : goal.returns-then-digit-value
-returns-then-digit-value c = sym (overflows c.loop-i.invariant c.loop-i-test.true (omega arith))
+pub returns-in_err-value : goal.returns-in_err-value
+returns-in_err-value c =
+    rw c.from_residual-in_err-value.ensures
+    (sym (overflows c.loop-b.invariant c.loop-b-test.true
+    (omega (arith, c.in_err-value.ensures, c.in_ok-checked_mul.ensures, c.from.ensures))))
 
-pub loop-i-preserved : goal.loop-i-preserved
-loop-i-preserved c = turn c.loop-i.invariant c.loop-i-test.true
-    c.if-b-lt48.false c.if-b-gt57.false (omega arith)
+pub loop-b-preserved : goal.loop-b-preserved
+loop-b-preserved c =
+    let digit = sym c.is_ascii_digit.ensures.value ∙ c.if-not-is_ascii_digit.false in
+    let sum : c.in_ok-value.value ≡ 10 * c.loop-b.value + (get_or c.args.text.now c.loop-b.b-index 0 - 48) =
+    omega (arith, c.in_ok-value.ensures, c.in_ok-checked_mul.ensures, c.from.ensures) in
+    rw sum (turn c.loop-b.invariant c.loop-b-test.true digit (omega (arith, c.in_ok-value.ensures)))
 
 pub returns : goal.returns
-returns c = sym (done c.loop-i.invariant c.loop-i-test.false)
+returns c = sym (done c.loop-b.invariant c.loop-b-test.false)

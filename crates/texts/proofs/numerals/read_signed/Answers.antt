@@ -4,7 +4,7 @@ use native.Mathlib.Omega.{arith}
 use lib.ListN.{length, drop, length-drop}
 use lib.Seq.{take_all}
 use Rattle.texts.specs.Numerals.{negative, positive, number_of, signed_of}
-use Rattle.texts.proofs.Decimals.{no_text, minus, no_minus, positive_large, positive_fits}
+use Rattle.texts.proofs.Decimals.{no_text, minus, no_minus, positive_of}
 use Rattle.texts.proofs.numerals.read_signed.Goals as goal
 use Rattle.texts.proofs.numerals.read_signed.Goals.{After-read_number, After-read_number-2}
 
@@ -21,22 +21,25 @@ whole c =
     no_minus c.args.text.now c.if-text-eq0.false c.if-text-eq45.false
     ∙ ap positive (sym c.read_number-2.ensures)
 
-pub returns-in_default : goal.returns-in_default
-returns-in_default c = sym (behind (goal.at.returns-in_default c).After-read_number ∙ ap negative c.in_default.is)
+pub returns-then-text-eq0 : goal.returns-then-text-eq0
+returns-then-text-eq0 c = sym (no_text c.args.text.now c.if-text-eq0.true)
+
+pub returns-in_err-read_number : goal.returns-in_err-read_number
+returns-in_err-read_number c =
+    rw c.from_residual.ensures
+    (sym (behind (goal.at.returns-in_err-read_number c).After-read_number ∙ ap negative c.in_err-read_number.was))
 
 pub returns-then-text-eq45 : goal.returns-then-text-eq45
-returns-then-text-eq45 c = c.below_zero.ensures ∙ sym (behind (goal.at.returns-then-text-eq45 c).After-read_number ∙ ap negative c.in-Value.is)
+returns-then-text-eq45 c =
+    c.below_zero.ensures ∙ sym (behind (goal.at.returns-then-text-eq45 c).After-read_number ∙ ap negative c.in_ok-read_number.was)
 
-pub returns-in_default-read_number : goal.returns-in_default-read_number
-returns-in_default-read_number c = sym (whole (goal.at.returns-in_default-read_number c).After-read_number-2 ∙ ap positive c.in_default-read_number.is)
-
-pub returns-then-size-gt9223372036854775807 : goal.returns-then-size-gt9223372036854775807
-returns-then-size-gt9223372036854775807 c =
-    sym (whole (goal.at.returns-then-size-gt9223372036854775807 c).After-read_number-2 ∙ ap positive c.in-Value-read_number.is ∙ positive_large c.in-Value-read_number.size c.if-size-gt9223372036854775807.true)
+pub returns-in_err-read_number-2 : goal.returns-in_err-read_number-2
+returns-in_err-read_number-2 c =
+    rw c.from_residual-in_err-read_number-2.ensures
+    (sym (whole (goal.at.returns-in_err-read_number-2 c).After-read_number-2 ∙ ap positive c.in_err-read_number-2.was))
 
 pub returns : goal.returns
 returns c =
-    sym (whole (goal.at.returns c).After-read_number-2 ∙ ap positive c.in-Value-read_number.is ∙ positive_fits c.in-Value-read_number.size c.if-size-gt9223372036854775807.false)
-
-pub returns-then-text-eq0 : goal.returns-then-text-eq0
-returns-then-text-eq0 c = sym (no_text c.args.text.now c.if-text-eq0.true)
+    c.ok.ensures.value
+    ∙ positive_of c.in_ok-read_number-2.field-0 c.try_from.result c.try_from.ensures
+    ∙ sym (whole (goal.at.returns c).After-read_number-2 ∙ ap positive c.in_ok-read_number-2.was)
