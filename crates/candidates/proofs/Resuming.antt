@@ -20,7 +20,7 @@ use Rattle.txset.specs.Sets.{positions, is_position, mem, members, is_empty, low
 use Rattle.txset.proofs.Sets.{mem_position, mem_without, empty_mem}
 use Rattle.txset.proofs.Walk.{lowest_mem, lowest_position}
 use Rattle.feeset.specs.Scan.{scan, best}
-use Rattle.feeset.proofs.Scan.{best_ext}
+use Rattle.feeset.proofs.Scan.{best_elem, best_ext}
 use Rattle.candidates.specs.Steps.{Places, HeldAt, HeldBelow, Resumes}
 
 -- the members below i
@@ -178,6 +178,12 @@ resume_start {A} above value todo low full rest held first from found worth some
             (λ (z : j < first). ap (λ (c : Bool). c && not (eqb j first)) (lowest_first todo j (omega (arith, is))))
             (eq-or-lt_of_le b)
 
+-- what is found is one of the set
+pub found_in : {A : Type 0} {above : ℕ → ℕ → Bool} {value : ℕ → A} {todo : TxSet} {old : List ℕ} {found : ℕ} {worth : A} {rest : TxSet} {held : List ℕ}
+    → Resuming above value todo old found worth rest held → mem todo found ≡ true
+found_in {above = above} {todo = todo} {found = found} h =
+    (elem_below (mem todo) h.upto found (best_elem above (below_in todo h.upto) found h.gives)).1
+
 -- nothing is left to scan
 pub resume_stop : {A : Type 0} {above : ℕ → ℕ → Bool} {value : ℕ → A} {todo : TxSet} {old : List ℕ} {found : ℕ} {worth : A} {rest : TxSet}
     {held : List ℕ} → Resuming above value todo old found worth rest held → is_empty rest ≡ true
@@ -211,6 +217,10 @@ module _
   here =
       let m = sym (h.left i) ∙ ap (mem rest) first ∙ lowest_mem rest some in
       (and_left (mem todo i) (leb h.upto i) m, leb-true h.upto i (and_right (mem todo i) (leb h.upto i) m))
+
+  -- it is one of the set
+  pub turn_in : mem todo i ≡ true
+  turn_in = here.0
 
   pub place : i < length held
   place = omega (arith, places i here.0, h.long)

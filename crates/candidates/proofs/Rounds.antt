@@ -11,7 +11,7 @@ use lib.ListN.{length, take, drop, get_or, length-append}
 use lib.Seq.{take_at, drop_at, drop-append-add, drop-drop}
 use borrow.Author.Tests.{ltb-true, leb-true, lt-leb, le-leb}
 use Rattle.feefrac.specs.declared.FeeFrac.{FeeFrac}
-use Rattle.feefrac.specs.Rate.{rate_at, rank_order, is_greater}
+use Rattle.feefrac.specs.Rate.{rank_order, is_greater}
 use Rattle.txset.specs.declared.TxSet.{TxSet}
 use Rattle.lists.specs.Below.{bit, count_from, list_from}
 use Rattle.lists.specs.Lists.{elem, any_of, overwrite}
@@ -22,7 +22,7 @@ use Rattle.feeset.specs.Total.{total}
 use Rattle.feeset.specs.Scan.{best, ranks_above}
 use Rattle.candidates.specs.Candidates.{given_back, ancestor_sum, remaining, candidate, remaining_ancestors, fewer_ancestors}
 use Rattle.candidates.specs.Candidates.{append_ancestors, append_for, rounds, ancestor_order, fits, written, filled}
-use Rattle.candidates.specs.Steps.{ancestor_in, Places, HeldBelow, Resumes, Counted, fewer_by, sorted, GaveBack, ChangedOnly, Appended}
+use Rattle.candidates.specs.Steps.{ancestor_in, sum_at, Places, HeldBelow, Resumes, Counted, fewer_by, sorted, GaveBack, ChangedOnly, Appended}
 use Rattle.lists.proofs.Bools.{clash, and_left, and_right, or_left, or_right, or_either, is_false}
 use Rattle.lists.proofs.Below.{elem_below}
 use Rattle.lists.proofs.Lists.{without_append}
@@ -80,8 +80,7 @@ pub record Taking
     (ss ws ds : List ℕ)
     (n : ℕ)
     (room order : List ℕ)
-    (sum-fees : List ℤ)
-    (sum-sizes : List ℕ)
+    (present : List FeeFrac)
     (held : List ℕ)
     (todo : TxSet)
     (from len : ℕ) : Type 0 where
@@ -92,9 +91,9 @@ pub record Taking
   pub count : len ≡ length out
   pub sum : len + size todo ≤ n
   pub left : (i : ℕ) → mem todo i ≡ (ltb i n && not (elem i out))
-  pub sums : (i : ℕ) → mem todo i ≡ true → rate_at sum-fees sum-sizes i ≡ ancestor_sum fs ss n (mem_at ws) (mem_at ds) out i
+  pub sums : (i : ℕ) → mem todo i ≡ true → sum_at present i ≡ ancestor_sum fs ss n (mem_at ws) (mem_at ds) out i
   pub starts : is_empty todo ≡ false → from < n
-  pub resumes : Resumes (ranks_above (rate_at sum-fees sum-sizes)) todo held from
+  pub resumes : Resumes (ranks_above (sum_at present)) todo held from
   pub are : order ≡ out ++ drop len room
   pub long : length order ≡ length room
 
@@ -109,11 +108,11 @@ module _
     (counted : Counted ws all n counts)
     (room : List ℕ) where
   -- at first nothing is out
-  pub take_start : (sum-fees : List ℤ) (sum-sizes held : List ℕ)
-      → ((i : ℕ) → i < n → rate_at sum-fees sum-sizes i ≡ total fs ss (list_from (ancestor_in ws all i) positions 0))
-      → Taking fs ss ws ds n room room sum-fees sum-sizes held all 0 0
+  pub take_start : (present : List FeeFrac) (held : List ℕ)
+      → ((i : ℕ) → i < n → sum_at present i ≡ total fs ss (list_from (ancestor_in ws all i) positions 0))
+      → Taking fs ss ws ds n room room present held all 0 0
   unfolding ancestor_sum given_back elem any_of
-  take_start sum-fees sum-sizes held e = record {
+  take_start present held e = record {
     out = [];
     round = 0;
     goes = ap (λ (k : ℕ). rounds fs ss n (mem_at ws) (mem_at ds) k []) (omega arith);
@@ -123,18 +122,18 @@ module _
     left = λ i. all_mem ws n few all full i ∙ sym (and-true (ltb i n));
     sums = λ i m. e i (ltb-true i n (sym (all_mem ws n few all full i) ∙ m)) ∙ ap (total fs ss) (ancestors_below ws n few all full i);
     starts = λ m. let l = ltb-true (lowest_of all) n (sym (all_mem ws n few all full (lowest_of all)) ∙ lowest_mem all m) in omega arith;
-    resumes = resumes_first (ranks_above (rate_at sum-fees sum-sizes)) all held;
+    resumes = resumes_first (ranks_above (sum_at present)) all held;
     are = refl;
     long = refl;
   }
 
   module _
       (order : List ℕ)
-      (sum-fees : List ℤ)
-      (sum-sizes old : List ℕ)
+      (present : List FeeFrac)
+      (old : List ℕ)
       (todo : TxSet)
       (from len : ℕ)
-      (h : Taking fs ss ws ds n room order sum-fees sum-sizes old todo from len) where
+      (h : Taking fs ss ws ds n room order present old todo from len) where
     -- what is left has its places
     pub todo_places : (m : ℕ) → n ≤ m → Places todo m
     todo_places m l i e = let b = ltb-true i n (and_left (ltb i n) (not (elem i h.out)) (sym (h.left i) ∙ e)) in omega arith
@@ -149,20 +148,20 @@ module _
     take_empty e = sym (rounds_none fs ss n (mem_at ws) (mem_at ds) (n - h.round) h.out (sym todo_members ∙ walk_done todo e)) ∙ h.goes
 
     -- the candidate of the definition is that of the code
-    candidate_is : candidate fs ss n (mem_at ws) (mem_at ds) h.out ≡ best (ranks_above (rate_at sum-fees sum-sizes)) (members todo)
+    candidate_is : candidate fs ss n (mem_at ws) (mem_at ds) h.out ≡ best (ranks_above (sum_at present)) (members todo)
     unfolding candidate ranks_above
     candidate_is =
         ap (best (ranks_above (ancestor_sum fs ss n (mem_at ws) (mem_at ds) h.out))) (sym todo_members)
         ∙ best_ext _ _ (members todo) (λ x y p q. ap₂ (λ (a b : FeeFrac). is_greater (rank_order a b)) (sym (sum_of x p)) (sym (sum_of y q)))
       where
-        sum_of : (x : ℕ) → elem x (members todo) ≡ true → rate_at sum-fees sum-sizes x ≡ ancestor_sum fs ss n (mem_at ws) (mem_at ds) h.out x
+        sum_of : (x : ℕ) → elem x (members todo) ≡ true → sum_at present x ≡ ancestor_sum fs ss n (mem_at ws) (mem_at ds) h.out x
         sum_of x p = h.sums x (sym (members_elem todo x) ∙ p)
 
     -- t is taken: `at` is its set, `some` its ancestors that are left, and `rest` what is left without them
     module _
         (t : ℕ)
         (at some rest : TxSet)
-        (best-is : best (ranks_above (rate_at sum-fees sum-sizes)) (members todo) ≡ t ∷ [])
+        (best-is : best (ranks_above (sum_at present)) (members todo) ≡ t ∷ [])
         (at-is : at ≡ set_at ws t)
         (shared : (i : ℕ) → mem some i ≡ (mem at i && mem todo i))
         (without : (i : ℕ) → mem rest i ≡ (mem todo i && not (mem some i))) where
@@ -286,14 +285,14 @@ module _
             ∙ ap (λ (k : ℕ). drop k room) d
 
         -- one round
-        pub take_turn : (sum-fees' : List ℤ) (sum-sizes' held : List ℕ) (changed both : TxSet) (next : ℕ) → is_empty some ≡ false
-            → GaveBack fs ss ds rest (take (end - len) (drop len last)) (rate_at sum-fees sum-sizes) (rate_at sum-fees' sum-sizes')
-            → ChangedOnly rest changed (rate_at sum-fees sum-sizes) (rate_at sum-fees' sum-sizes')
-            → HeldBelow (ranks_above (rate_at sum-fees sum-sizes)) todo held positions
+        pub take_turn : (present' : List FeeFrac) (held : List ℕ) (changed both : TxSet) (next : ℕ) → is_empty some ≡ false
+            → GaveBack fs ss ds rest (take (end - len) (drop len last)) (sum_at present) (sum_at present')
+            → ChangedOnly rest changed (sum_at present) (sum_at present')
+            → HeldBelow (ranks_above (sum_at present)) todo held positions
             → ((i : ℕ) → mem both i ≡ (mem some i || mem changed i)) → next ≡ lowest_of both
-            → Taking fs ss ws ds n room last sum-fees' sum-sizes' held rest next end
+            → Taking fs ss ws ds n room last present' held rest next end
         unfolding ancestor_sum rounds new ranks_above
-        take_turn sum-fees' sum-sizes' held changed both next any back only kept joins is =
+        take_turn present' held changed both next any back only kept joins is =
             let many : length new ≡ size some = app.many in
             let fewer = some_size any in
             let fall : n - h.round ≡ suc (n - (h.round + 1)) = omega (arith, h.upto, parts) in
@@ -315,7 +314,7 @@ module _
                   ∙ sym (back_append fs ss (λ t. mem_at ds t i) (total fs ss (list_from (mem_at ws i) n 0)) h.out new);
               starts = λ _. todo_places n (omega arith) next first_left;
               resumes =
-                  resumes_on (λ a b. is_greater (rank_order a b)) (rate_at sum-fees sum-sizes) (rate_at sum-fees' sum-sizes') todo rest next
+                  resumes_on (λ a b. is_greater (rank_order a b)) (sum_at present) (sum_at present') todo rest next
                   (λ j l. without j ∙ ap (λ (b : Bool). mem todo j && not b) (not_some j l) ∙ and-true (mem todo j))
                   (λ j l m. only.same j (not_changed j l)) held kept first_left;
               are =
@@ -378,8 +377,8 @@ unfolding fits
 fit_room fs room e = leb-true (length fs) (length room) (and_right (leb (length fs) positions) (leb (length fs) (length room)) e)
 
 -- and all that was taken is there
-pub all_taken : {fs : List ℤ} {ss ws ds room order : List ℕ} {sum-fees : List ℤ} {sum-sizes held : List ℕ} {todo : TxSet} {from len : ℕ}
-    → (h : Taking fs ss ws ds (length fs) room order sum-fees sum-sizes held todo from len) → fits fs room ≡ true
+pub all_taken : {fs : List ℤ} {ss ws ds room order : List ℕ} {present : List FeeFrac} {held : List ℕ} {todo : TxSet} {from len : ℕ}
+    → (h : Taking fs ss ws ds (length fs) room order present held todo from len) → fits fs room ≡ true
     → h.out ≡ rounds fs ss (length fs) (mem_at ws) (mem_at ds) (length fs) []
     → (len ≡ written fs ss (mem_at ws) (mem_at ds) room) × (order ≡ filled fs ss (mem_at ws) (mem_at ds) room)
 unfolding written filled ancestor_order

@@ -1,56 +1,48 @@
--- The sums as two lists, written one after the other. Assumes nothing.
+-- The sums in a list, written one after the other. Assumes nothing.
 use mathlib.Core.Path.{◌≡◌, refl, sym, ap, ◌∙◌}
-use mathlib.Core.Bool.{Bool, true, false, cond, not, ◌&&◌, ◌||◌}
+use mathlib.Core.Bool.{Bool, true, false, cond, ◌||◌}
 use mathlib.Core.Logic.{⊎_elim}
 use mathlib.Core.List.{List, [], ◌∷◌, ◌++◌}
 use Prim.Native.Nat.{ℕ, ◌+◌, ◌≤◌, ◌<◌}
 use native.Mathlib.Numerals.{add-one}
 use native.Mathlib.Omega.{arith}
-use lib.Dec.{eqb}
 use lib.IntN.{ℤ}
 use lib.ListN.{length, drop, set, get_or, drop_of_length-le}
-use lib.Seq.{drop-cons}
+use lib.Seq.{drop-cons, get_or-set_same, get_or-set_other}
 use borrow.Author.Count.{below_more}
 use Rattle.feefrac.specs.declared.FeeFrac.{FeeFrac}
-use Rattle.feefrac.specs.Rate.{difference, rate_at}
-use Rattle.feefrac.proofs.Lists.{put_same, put_other}
+use Rattle.feefrac.specs.Rate.{zero_rate, difference, rate_at}
 use Rattle.txset.specs.declared.TxSet.{TxSet}
-use Rattle.txset.specs.Sets.{mem, is_empty, lowest_of}
+use Rattle.txset.specs.Sets.{mem}
+use Rattle.txset.proofs.Walk.{Turn}
 use Rattle.lists.proofs.Bools.{clash, or_left, or_right, or_either}
 use Rattle.candidates.specs.Candidates.{given_back}
-use Rattle.candidates.specs.Steps.{ChangedOnly, GaveOneBack}
+use Rattle.candidates.specs.Steps.{sum_at, ChangedOnly, GaveOneBack}
 use Rattle.candidates.proofs.Changes.{Changing, change_turn}
 
--- the lists after r was put at d
-pub record Put (fs gs : List ℤ) (ss ts : List ℕ) (d : ℕ) (r : FeeFrac) : Type 0 where
-  pub fees : gs ≡ set fs d r.fee
-  pub sizes : ts ≡ set ss d r.size
+module _ (sums : List FeeFrac) (d : ℕ) (r : FeeFrac) where
+  -- r, put at d, is read there, and the others stay
+  read_same : d < length sums → sum_at (set sums d r) d ≡ r
+  read_same l = get_or-set_same sums d r zero_rate l
 
-module _ {fs gs : List ℤ} {ss ts : List ℕ} {d : ℕ} {r : FeeFrac} (h : Put fs gs ss ts d r) where
-  -- it is read there, and the others stay
-  pub read_same : d < length fs → d < length ss → rate_at gs ts d ≡ r
-  read_same a b = rw (h.fees, h.sizes) (put_same fs ss d r a b)
-
-  pub read_other : (j : ℕ) → (j ≡ d → ⊥) → rate_at gs ts j ≡ rate_at fs ss j
-  read_other j n = rw (h.fees, h.sizes) (put_other fs ss d j r n)
+  read_other : (j : ℕ) → (j ≡ d → ⊥) → sum_at (set sums d r) j ≡ sum_at sums j
+  read_other j n = get_or-set_other sums d j r zero_rate n
 
   -- one more is as wanted
-  pub fill_more : (want : ℕ → FeeFrac) → d < length fs → d < length ss → r ≡ want d → ((j : ℕ) → j < d → rate_at fs ss j ≡ want j)
-      → (j : ℕ) → j < d + 1 → rate_at gs ts j ≡ want j
-  fill_more want a b e w =
-      below_more (λ j. rate_at gs ts j ≡ want j) d (λ j l. read_other j (λ z. omega arith) ∙ w j l) (read_same a b ∙ e)
+  pub fill_more : (want : ℕ → FeeFrac) → d < length sums → r ≡ want d → ((j : ℕ) → j < d → sum_at sums j ≡ want j)
+      → (j : ℕ) → j < d + 1 → sum_at (set sums d r) j ≡ want j
+  fill_more want l e w =
+      below_more (λ j. sum_at (set sums d r) j ≡ want j) d (λ j m. read_other j (λ z. omega arith) ∙ w j m) (read_same l ∙ e)
 
 -- ---- a walk that gives one back to the members of a set
 
 -- d, the lowest of those that are left, is put anew
-pub give_turn : (rate : FeeFrac) (to : TxSet) (was : ℕ → FeeFrac) (fs : List ℤ) (ss : List ℕ) (s t : TxSet) (d : ℕ)
-    → is_empty s ≡ false → d ≡ lowest_of s → ((j : ℕ) → mem t j ≡ (mem s j && not (eqb j (lowest_of s))))
-    → (r : FeeFrac) → r ≡ difference (rate_at fs ss d) rate → (gs : List ℤ) (ts : List ℕ) → Put fs gs ss ts d r
-    → d < length fs → d < length ss
-    → Changing (λ x. difference x rate) to was (rate_at fs ss) s → Changing (λ x. difference x rate) to was (rate_at gs ts) t
-give_turn rate to was fs ss s t d some first less r is gs ts p a b =
-    change_turn (λ x. difference x rate) to was (rate_at fs ss) (rate_at gs ts) s t d some first less
-    (read_same p a b ∙ is) (read_other p)
+pub give_turn : (rate : FeeFrac) (to : TxSet) (was : ℕ → FeeFrac) (sums : List FeeFrac) (s t : TxSet) (d : ℕ) → Turn s t d
+    → (r : FeeFrac) → r ≡ difference (sum_at sums d) rate → d < length sums
+    → Changing (λ x. difference x rate) to was (sum_at sums) s → Changing (λ x. difference x rate) to was (sum_at (set sums d r)) t
+give_turn rate to was sums s t d w r is l =
+    change_turn (λ x. difference x rate) to was (sum_at sums) (sum_at (set sums d r)) s t d w.left w.first w.next
+    (read_same sums d r l ∙ is) (read_other sums d r)
 
 -- ---- whose sums have changed
 

@@ -1,27 +1,28 @@
--- What the functions of this crate hand to each other in lent lists: no contract outside this crate cites it. Assumes nothing.
-use Rattle.std.specs.Prelude.{ℕ, ◌≤◌, ◌<◌, ◌≡◌, List, length, get_or, ℤ}
-use Rattle.feefrac.specs.Rate.{rate_at}
+-- What the functions of this crate say to each other: no contract outside this crate cites it. Assumes nothing.
+use Rattle.std.specs.Prelude.{ℕ, zero, suc, ◌<◌, ◌≤◌, ◌≡◌, List, [], ◌∷◌, length, get_or}
+use Rattle.feefrac.specs.declared.FeeFrac.{FeeFrac}
+use Rattle.feefrac.specs.Rate.{zero_rate}
 use Rattle.txset.specs.Sets.{positions}
 use Rattle.chunking.specs.declared.Chunk.{Chunk}
+use Rattle.chunking.specs.Chunks.{chunks_after}
 
--- two rooms have the feerates of the members in the order, as far as both go
-pub record Gathered (fs : List ℤ) (ss order : List ℕ) (inFees : List ℤ) (inSizes : List ℕ) : Type 0 where
-  pub at : (k : ℕ) → k < length order → k < length inFees → k < length inSizes → rate_at inFees inSizes k ≡ rate_at fs ss (get_or order k 0)
-
--- at most 64 members in an order, and places for each of them
-pub record Listed (order : List ℕ) (inFees : List ℤ) (inSizes lens : List ℕ) : Type 0 where
-  pub few : length order ≤ positions
-  pub fees : length order ≤ length inFees
-  pub sizes : length order ≤ length inSizes
-  pub wide : length order ≤ length lens
-
--- the k-th of a list of chunks, by their fees, sizes and lengths
-abbrev pub chunk_of : List ℤ → List ℕ → List ℕ → ℕ → Chunk
-chunk_of fs ss ls k = record { rate = rate_at fs ss k; len = get_or ls k 0 }
-
--- at most 64 members, and places for a chunk of each
-pub record Stack (n : ℕ) (fs : List ℤ) (ss ls : List ℕ) : Type 0 where
+-- at most 64 members, of these feerates: what may be called with a number below n answers the one that stands there in the list
+pub record Rated (n : ℕ) (callable : ℕ → Type 0) (answers : ℕ → FeeFrac → Type 0) (rs : List FeeFrac) : Type 0 where
   pub few : n ≤ positions
-  pub fees : n ≤ length fs
-  pub sizes : n ≤ length ss
-  pub lens : n ≤ length ls
+  pub many : length rs ≡ n
+  pub may : (i : ℕ) → i < n → callable i
+  pub each : (i : ℕ) (r : FeeFrac) → i < n → answers i r → r ≡ get_or rs i zero_rate
+
+abbrev pub no_chunk : Chunk
+no_chunk = record { rate = zero_rate; len = 0 }
+
+-- the first n of a list of chunks, the last of them first
+unfoldable pub stk : List Chunk → ℕ → List Chunk
+stk xs zero = []
+stk xs (suc n) = get_or xs n no_chunk ∷ stk xs n
+
+-- the first n of a stack are the chunks of these members
+pub record Stacked (xs : List Chunk) (n : ℕ) (rs : List FeeFrac) : Type 0 where
+  pub wide : n ≤ length xs
+  pub few : n ≤ length rs
+  pub same : stk xs n ≡ chunks_after [] rs

@@ -3,12 +3,13 @@
 use mathlib.Core.Path.{◌≡◌, refl, sym, ap, ap₂, ◌∙◌}
 use mathlib.Core.Bool.{Bool, true, false, not, ◌&&◌, ◌||◌, and-true, and-false, and_comm, or-false, or_assoc, or_comm}
 use mathlib.Core.Logic.{⊎_elim}
-use mathlib.Core.List.{List}
-use Prim.Native.Nat.{ℕ, suc, ◌+◌, ◌≤◌, ◌<◌}
+use mathlib.Core.List.{List, []}
+use Prim.Native.Nat.{ℕ, suc, ◌+◌, ◌≤◌, ◌<◌, min}
 use native.Mathlib.Numerals.{add-one}
 use native.Mathlib.Omega.{arith}
 use lib.Dec.{eqb, ltb}
-use lib.ListN.{length, take, length-take}
+use lib.ListN.{length, take, replicate, length-take, length-replicate}
+use Rattle.std.proofs.lemmas.List.{get_or-replicate}
 use lib.Seq.{take-length, take_all, take-take, length-take-le, get_or-take}
 use borrow.Author.Tests.{lt-ltb, le-ltb, eq-eqb, ne_eqb, eqb-true}
 use Rattle.txset.specs.declared.TxSet.{TxSet}
@@ -70,14 +71,17 @@ pub record Left (ps : List ℕ) (n : ℕ) (qs : List ℕ) : Type 0 where
 pub left_all : (ps : List ℕ) → Left ps (length ps) ps
 left_all ps = record { there = omega arith; same = take-length ps }
 
--- there is place for k: for fewer than were left, or for all of them
-pub left_fewer : {ps qs : List ℕ} {n : ℕ} (k : ℕ) → k < n → Left ps n qs → Left ps k (take k qs)
-left_fewer {ps} {qs} {n} k l h = record { there = omega (arith, h.there); same = sym (take-take k n ps (omega arith)) ∙ ap (take k) h.same }
-
-pub left_same : {ps qs : List ℕ} {n : ℕ} (k : ℕ) → n ≤ k → Left ps n qs → Left ps n (take k qs)
-left_same {ps} {qs} {n} k l h =
+-- there is place for k
+pub left_min : {ps qs : List ℕ} {n m : ℕ} (k : ℕ) → m ≡ min n k → Left ps n qs → Left ps m (take k qs)
+left_min {ps} {qs} {n} {m} k e h =
     let long : length qs ≡ n = ap length (sym h.same) ∙ length-take-le n ps h.there in
-    record { there = h.there; same = h.same ∙ sym (take_all k qs (omega arith)) }
+    record {
+      there = omega (arith, h.there);
+      same = ⊎_elim
+          (λ (l : k < n). let g : m ≡ k = omega arith in rw g (sym (take-take k n ps (omega arith)) ∙ ap (take k) h.same))
+          (λ (l : n ≤ k). let g : m ≡ n = omega arith in rw g (h.same ∙ sym (take_all k qs (omega arith))))
+          (lt_or_ge k n);
+    }
 
 taken_few : (k : ℕ) (ps : List ℕ) → length (take k ps) ≤ k
 taken_few k ps = omega (arith, length-take k ps)
@@ -102,33 +106,17 @@ left_placed ps up down {n} h =
 pub room_as : {n : ℕ} {up down up' down' : List ℕ} → Room n up down → length up' ≡ length up → length down' ≡ length down → Room n up' down'
 room_as r e f = record { few = r.few; ups = omega (arith, r.ups); downs = omega (arith, r.downs) }
 
+-- words of zero are empty sets
+pub zeros_empty : {ws : List ℕ} (n : ℕ) → ws ≡ replicate n 0 → (i a : ℕ) → mem (set_at ws i) a ≡ false
+unfolding set_at
+zeros_empty n e i a = rw e (⊎_elim
+    (λ (l : i < n). rw (get_or-replicate {A = ℕ} n i 0 0 l) (at_past [] 0 a (omega arith)))
+    (λ (l : n ≤ i). at_past (replicate n 0) i a (rw length-replicate l))
+    (lt_or_ge i n))
+
 -- empty sets hold nothing
 pub hold_nothing : {up down : List ℕ} → ((i a : ℕ) → mem (set_at up i) a ≡ false) → ((i a : ℕ) → mem (set_at down i) a ≡ false) → Holds nothing up down
 hold_nothing e f = record { above = e; below = λ i a. f a i }
-
--- ---- clear: the sets below i are empty
-
-pub record Clearing (ws₀ ws : List ℕ) (i : ℕ) : Type 0 where
-  pub same : length ws ≡ length ws₀
-  pub none : (j a : ℕ) → j < i → mem (set_at ws j) a ≡ false
-
-pub clear_start : (ws : List ℕ) → Clearing ws ws 0
-clear_start ws = record { same = refl; none = λ j a l. absurd (omega arith) }
-
-pub clear_turn : {ws₀ ws new : List ℕ} (i : ℕ) (s : TxSet) → i < length ws₀ → ((a : ℕ) → mem s a ≡ false) → new ≡ put_at ws i s
-    → Clearing ws₀ ws i → Clearing ws₀ new (i + 1)
-clear_turn {ws₀} {ws} i s l empty put c =
-    rw put (record {
-      same = length_put ws i s ∙ c.same;
-      none = λ j a m.
-          by_number (λ j. j < i + 1 → mem (set_at (put_at ws i s) j) a ≡ false) i
-          (λ m. put_at_lem ws i s (omega (arith, c.same)) a ∙ empty a)
-          (λ j n m. put_else ws i s j a n ∙ c.none j a (⊎_elim (λ x. x) (λ x. absurd (n (omega arith))) (lt_or_ge j i)))
-          j m;
-    })
-
-pub clear_done : {ws₀ ws : List ℕ} {i : ℕ} → length ws₀ ≤ i → Clearing ws₀ ws i → (j a : ℕ) → mem (set_at ws j) a ≡ false
-clear_done {ws₀} {ws} l c j a = ⊎_elim (λ m. c.none j a (omega (arith, c.same))) (at_past ws j a) (lt_or_ge j (length ws))
 
 -- ---- link: the relation, of the members below i alone
 

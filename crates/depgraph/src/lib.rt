@@ -4,7 +4,7 @@
 
 #![tactic(auto)]
 
-ghost use Rattle.std.specs.Prelude.{ℕ, ◌≤◌, length, take, ◌≡◌, Bool, true, false, ◌&&◌};
+ghost use Rattle.std.specs.Prelude.{ℕ, ◌≤◌, length, take, ◌≡◌, Bool, true, ◌&&◌};
 ghost use Rattle.ways.specs.Ways.{reach};
 ghost use Rattle.txset.specs.Sets.{mem, set_at, Joined};
 ghost use Rattle.depgraph.specs.Graph.{is_parent};
@@ -28,8 +28,8 @@ impl DepGraph {
             ancestors.new descendants.new result }
     {
         let n = places(parents, ancestors, descendants);
-        clear(ancestors);
-        clear(descendants);
+        ancestors.fill(0);
+        descendants.fill(0);
         link(parents, n, ancestors, descendants);
         close(n, ancestors, descendants);
         let cyclic = include_self(n, ancestors, descendants);
@@ -41,29 +41,11 @@ impl DepGraph {
 fn places(parents: &[u64], ancestors: &[u64], descendants: &[u64]) -> usize
     ensures { Placed parents.now ancestors.now descendants.now result }
 {
-    let mut n = parents.len();
-    if POSITIONS < n {
-        n = POSITIONS;
-    }
-    if ancestors.len() < n {
-        n = ancestors.len();
-    }
-    if descendants.len() < n {
-        n = descendants.len();
-    }
-    n
-}
-
-// Makes every set empty.
-fn clear(sets: &mut [u64])
-    ensures { (i a : ℕ) → mem (set_at sets.new i) a ≡ false }
-{
-    let mut i: usize = 0;
-    // The first i are empty.
-    while i < sets.len() {
-        TxSet::empty().put(sets, i);
-        i += 1;
-    }
+    parents
+        .len()
+        .min(POSITIONS)
+        .min(ancestors.len())
+        .min(descendants.len())
 }
 
 // Enters each member's parents, and the member with each of them.
@@ -74,13 +56,11 @@ fn link(parents: &[u64], n: usize, ancestors: &mut [u64], descendants: &mut [u64
     ensures { Holds (is_parent (take n parents.now)) ancestors.new descendants.new }
 {
     let all = TxSet::full(n);
-    let mut i: usize = 0;
     // The links of the first i members are entered, in both tables.
-    while i < n {
+    for i in 0..n {
         let own = TxSet::at(parents, i).intersection(all).remove(i);
         own.put(ancestors, i);
         join(TxSet::singleton(i), descendants, own);
-        i += 1;
     }
 }
 
@@ -90,14 +70,12 @@ fn close(n: usize, ancestors: &mut [u64], descendants: &mut [u64])
     ensures { (f : ℕ → ℕ → Bool) → Holds f ancestors.old descendants.old
         → Holds (reach f n) ancestors.new descendants.new }
 {
-    let mut k: usize = 0;
     // Whoever reaches another by way of members before k has it in its set.
-    while k < n {
+    for k in 0..n {
         let above = TxSet::at(ancestors, k);
         let below = TxSet::at(descendants, k);
         join(above, ancestors, gaining(below, above));
         join(below, descendants, gaining(above, below));
-        k += 1;
     }
 }
 
@@ -106,11 +84,8 @@ fn join(set: TxSet, sets: &mut [u64], walk: TxSet)
     requires { Within walk sets.old }
     ensures { Joined walk set sets.old sets.new }
 {
-    let mut rest = walk;
     // The sets of those passed have taken the members of this one; all others are as they were.
-    while !rest.is_empty() {
-        let i = rest.lowest();
-        rest = rest.without_lowest();
+    for i in walk.iter() {
         let old = TxSet { word: sets[i] };
         let new = old.union(set);
         sets[i] = new.word;
@@ -135,16 +110,12 @@ fn include_self(n: usize, ancestors: &mut [u64], descendants: &mut [u64]) -> boo
         → Owning f n ancestors.new descendants.new result }
 {
     let mut cyclic = false;
-    let mut i: usize = 0;
     // The first i are in their own sets; `cyclic` says whether one of them was there before.
-    while i < n {
+    for i in 0..n {
         let above = TxSet::at(ancestors, i);
-        if above.contains(i) {
-            cyclic = true;
-        }
+        cyclic |= above.contains(i);
         above.insert(i).put(ancestors, i);
         TxSet::at(descendants, i).insert(i).put(descendants, i);
-        i += 1;
     }
     cyclic
 }

@@ -6,111 +6,99 @@
 
 ghost use Rattle.std.specs.Prelude.{◌≤◌, ◌≡◌, ◌++◌, length, drop};
 ghost use Rattle.lists.specs.Lists.{overwrite};
-ghost use Rattle.txset.specs.Sets.{mem_at};
-ghost use Rattle.depgraph.specs.Closed.{Room};
-ghost use Rattle.refusals.specs.Refusals.{refusal, success, reply_of, kept_unless};
+ghost use Rattle.txset.specs.Sets.{positions, mem_at};
+ghost use Rattle.refusals.specs.Refusals.{refusal, success, reply_from, reply_of, kept_unless};
 ghost use Rattle.linearize.specs.Linearize.{linear_order, last_refusals, reply, room_after};
 ghost use Rattle.linearize.specs.Steps.{steps_of, Checked, Ready};
 
 use depgraph::DepGraph;
-use refusals::Reply;
+use refusals::Refusal;
 use txset::POSITIONS;
 
 // Up to this many members the arrays are small.
 const FEW: usize = 8;
 
 // Writes the order of a cluster's members, as positions of the slices, to the room's start.
-pub fn linearize(fees: &[i64], sizes: &[u64], parents: &[u64], room: &mut [usize]) -> Reply
-    ensures value { result ≡ reply fees.now sizes.now parents.now room.old }
+// stays: the tests that post_linearize has too stand here again, since that of the room comes between them: shared, they would be two functions.
+pub fn linearize(
+    fees: &[i64],
+    sizes: &[u64],
+    parents: &[u64],
+    room: &mut [usize],
+) -> Result<usize, Refusal>
+    ensures value { reply_from result ≡ reply fees.now sizes.now parents.now room.old }
     ensures room_after { room.new ≡ room_after fees.now sizes.now parents.now room.old }
 {
     let n = fees.len();
     if sizes.len() != n {
-        return Reply::refused(refusals::LENGTHS_DIFFER);
+        return Err(Refusal::LengthsDiffer);
     }
     if parents.len() != n {
-        return Reply::refused(refusals::LENGTHS_DIFFER);
+        return Err(Refusal::LengthsDiffer);
     }
     if POSITIONS < n {
-        return Reply::refused(refusals::TOO_MANY_MEMBERS);
+        return Err(Refusal::TooManyMembers);
     }
     if room.len() < n {
-        return Reply::refused(refusals::ROOM_TOO_SHORT);
+        return Err(Refusal::RoomTooShort);
     }
-    if refusals::first_outside(fees) < n {
-        return Reply::refused(refusals::OUT_OF_RANGE);
+    if refusals::first_outside(fees).is_some() {
+        return Err(Refusal::OutOfRange);
     }
     // A member alone, the most common cluster, needs no graph: it has one order.
     if n == 0 {
-        return Reply::wrote(0);
+        return Ok(0);
     }
     if n == 1 {
         room[0] = 0;
-        return Reply::wrote(1);
+        return Ok(1);
     }
     order_cluster(fees, sizes, parents, room)
 }
 
-// Lends the tables and the list that the steps work in: small ones for few members, since clearing large ones would cost more than the steps.
-fn order_cluster(fees: &[i64], sizes: &[u64], parents: &[u64], room: &mut [usize]) -> Reply
+// Small arrays for few members, since clearing large ones would cost more than the steps.
+fn order_cluster(
+    fees: &[i64],
+    sizes: &[u64],
+    parents: &[u64],
+    room: &mut [usize],
+) -> Result<usize, Refusal>
     requires { Checked fees.now parents.now room.old }
-    ensures value { result ≡ reply_of refusal (last_refusals parents.now)
+    ensures value { reply_from result ≡ reply_of refusal (last_refusals parents.now)
         (success (length (linear_order fees.now sizes.now parents.now))) }
     ensures room_after { room.new ≡ kept_unless (last_refusals parents.now) room.old
         (overwrite (linear_order fees.now sizes.now parents.now) room.old) }
 {
     if fees.len() <= FEW {
-        let mut ancestors = [0u64; FEW];
-        let mut descendants = [0u64; FEW];
-        let mut order = [0usize; FEW];
-        return order_in(
-            fees,
-            sizes,
-            parents,
-            &mut ancestors,
-            &mut descendants,
-            &mut order,
-            room,
-        );
+        return in_arrays::<FEW>(fees, sizes, parents, room);
     }
-    let mut ancestors = [0u64; POSITIONS];
-    let mut descendants = [0u64; POSITIONS];
-    let mut order = [0usize; POSITIONS];
-    order_in(
-        fees,
-        sizes,
-        parents,
-        &mut ancestors,
-        &mut descendants,
-        &mut order,
-        room,
-    )
+    in_arrays::<POSITIONS>(fees, sizes, parents, room)
 }
 
-// Makes the graph, and orders its members where it has no cycle.
-fn order_in(
+// Makes the graph in tables of N sets, and orders its members in a list of N places where it has no cycle.
+fn in_arrays<const N: usize>(
     fees: &[i64],
     sizes: &[u64],
     parents: &[u64],
-    ancestors: &mut [u64],
-    descendants: &mut [u64],
-    order: &mut [usize],
     room: &mut [usize],
-) -> Reply
+) -> Result<usize, Refusal>
     requires checked { Checked fees.now parents.now room.old }
-    requires room { Room (length parents.now) ancestors.old descendants.old }
-    requires fees_in_bounds { length fees.now ≤ length order.old }
-    ensures value { result ≡ reply_of refusal (last_refusals parents.now)
+    requires few { length fees.now ≤ N }
+    requires small { N ≤ positions }
+    ensures value { reply_from result ≡ reply_of refusal (last_refusals parents.now)
         (success (length (linear_order fees.now sizes.now parents.now))) }
     ensures room_after { room.new ≡ kept_unless (last_refusals parents.now) room.old
         (overwrite (linear_order fees.now sizes.now parents.now) room.old) }
 {
     let n = fees.len();
-    let graph = DepGraph::new(parents, ancestors, descendants);
+    let mut ancestors = [0u64; N];
+    let mut descendants = [0u64; N];
+    let graph = DepGraph::new(parents, &mut ancestors, &mut descendants);
     if graph.cyclic {
-        return Reply::refused(refusals::CYCLE);
+        return Err(Refusal::Cycle);
     }
-    Reply::wrote(order_members(fees, sizes, ancestors, descendants, &mut order[..n], room))
+    let mut order = [0usize; N];
+    Ok(order_members(fees, sizes, &ancestors, &descendants, &mut order[..n], room))
 }
 
 // The four steps: ancestor sets by feerate into `order`, the two post passes there, and the output order into the room.

@@ -1,4 +1,4 @@
--- The cut: what is held of a chunk, the lists that serve as its stack as a pile of chunks, and the loops of `swallow` and `cut` as records over
+-- The cut: what is held of a chunk, the list that serves as its stack as a pile of chunks, and the loops of `swallow` and `cut` as records over
 -- plain values, with a law for each thing that the code does: it starts, takes a turn, is done. Assumes nothing.
 use Prim.Native.Nat.{ℕ, suc, ◌+◌, ◌-◌, ◌≤◌, ◌<◌, max}
 use native.Mathlib.Nat.{not-suc-le-zero}
@@ -19,15 +19,13 @@ use Rattle.lists.proofs.Lists.{any_append, elem_append, elem_one}
 use Rattle.lists.proofs.Numbers.{lt_or_ge}
 use Rattle.feefrac.specs.declared.FeeFrac.{FeeFrac}
 use Rattle.feefrac.specs.Rate.{rate_at, sum, higher}
-use Rattle.feefrac.proofs.Lists as rates'
 use Rattle.txset.specs.declared.TxSet.{TxSet}
-use Rattle.txset.specs.Sets.{positions, is_position, mem, set_at, put_at, mem_at}
-use Rattle.txset.proofs.Sets.{put_same, put_other, length_put}
+use Rattle.txset.specs.Sets.{positions, is_position, mem, set_at, mem_at}
 use Rattle.chunking.specs.declared.Chunk.{Chunk}
 use Rattle.chunking.specs.Chunks.{swallow, chunks_after, lengths_of, chunk_lengths}
 use Rattle.chunking.specs.Orders.{cut, chunks_of}
 use Rattle.output_order.specs.declared.Piece.{Piece}
-use Rattle.output_order.specs.Steps.{All, needed, Holds, Stack, Cut, Alone, Piled, in_order, rated, rated_pile, HeldAt, Grown, Growing, Swallowed}
+use Rattle.output_order.specs.Steps.{All, needed, Holds, no_piece, piece_at, rate_of, Cut, Alone, Piled, in_order, rated, rated_pile, HeldAt, Grown, Growing, Swallowed}
 
 -- ---- what is held of a chunk
 
@@ -64,15 +62,15 @@ module _ (n t : ℕ) (anc : ℕ → ℕ → Bool) where
           (λ e. ap (λ (b : Bool). ltb i n && b) e ∙ and-false (ltb i n))
 
 -- of a member
-pub holds_one : {n : ℕ} {all : TxSet} (ancestors : List ℕ) (t : ℕ) → All n all → t < n → (s m o : TxSet)
-    → ((i : ℕ) → mem s i ≡ (is_position i && eqb i t)) → ((a : ℕ) → mem m a ≡ (mem (set_at ancestors t) a && mem all a))
-    → ((a : ℕ) → mem o a ≡ (mem m a && not (eqb a t))) → Holds n (mem_at ancestors) (t ∷ []) s o t
-holds_one {n} {all} ancestors t h l s m o is meet rest =
+pub holds_one : {n : ℕ} {all : TxSet} (ancestors : List ℕ) (t : ℕ) → All n all → t < n → (s o : TxSet)
+    → ((i : ℕ) → mem s i ≡ (is_position i && eqb i t))
+    → ((a : ℕ) → mem o a ≡ ((mem (set_at ancestors t) a && mem all a) && not (eqb a t))) → Holds n (mem_at ancestors) (t ∷ []) s o t
+holds_one {n} {all} ancestors t h l s o is rest =
     record {
       members = λ i. is i ∙ within i ∙ sym (ap (λ (b : Bool). ltb i n && b) (elem_one i t));
       outsiders = λ a.
           rest a
-          ∙ ap (λ (b : Bool). b && not (eqb a t)) (meet a ∙ ap (λ (b : Bool). mem (set_at ancestors t) a && b) (h.are a))
+          ∙ ap (λ (b : Bool). (mem (set_at ancestors t) a && b) && not (eqb a t)) (h.are a)
           ∙ turned (mem (set_at ancestors t) a) (ltb a n) (eqb a t)
           ∙ sym (ap₂ (λ (b c : Bool). ltb a n && (b && not c))
           (needed_one n t (mem_at ancestors) a ∙ ap (λ (b : Bool). b && mem (set_at ancestors t) a) (lt-ltb t n l))
@@ -179,20 +177,20 @@ cut_pile rate (c ∷ cs) acc ls xs e =
 
 -- ---- swallow
 
-pub grow_start : {sets outsides tops : List ℕ} {rate : ℕ → FeeFrac} (p : Piece) → Growing sets outsides tops rate p p
-grow_start p =
+pub grow_start : {ps : List Piece} (p : Piece) (count : ℕ) → Growing ps p count p count
+grow_start p count =
     record {
       down = omega arith;
       grown = λ n anc c cs e h q. record { chunk = c; below = cs; place = e; holds = h; piled = q; ordered = refl; same = refl };
     }
 
-module _ {sets outsides tops : List ℕ} {rate : ℕ → FeeFrac} {p q : Piece} (h : Growing sets outsides tops rate p q) where
+module _ {ps : List Piece} {p q : Piece} {count at : ℕ} (h : Growing ps p count q at) where
   -- the chunk before the piece, at k, is swallowed
-  pub grow_turn : (k : ℕ) → 0 < q.at → k ≡ q.at - 1 → higher q.rate (rate k) ≡ true → (r : FeeFrac) (both more rest : TxSet) (top : ℕ)
-      → r ≡ sum q.rate (rate k) → ((i : ℕ) → mem both i ≡ (mem q.set i || mem (set_at sets k) i))
-      → ((a : ℕ) → mem more a ≡ (mem q.outside a || mem (set_at outsides k) a)) → ((a : ℕ) → mem rest a ≡ (mem more a && not (mem both a)))
-      → top ≡ max q.top (get_or tops k 0)
-      → Growing sets outsides tops rate p (record { rate = r; set = both; outside = rest; top = top; at = k })
+  pub grow_turn : (k : ℕ) → 0 < at → k ≡ at - 1 → higher q.rate (rate_of ps k) ≡ true → (r : FeeFrac) (both more rest : TxSet) (top : ℕ)
+      → r ≡ sum q.rate (rate_of ps k) → ((i : ℕ) → mem both i ≡ (mem q.set i || mem (piece_at ps k).set i))
+      → ((a : ℕ) → mem more a ≡ (mem q.outside a || mem (piece_at ps k).outside a)) → ((a : ℕ) → mem rest a ≡ (mem more a && not (mem both a)))
+      → top ≡ max q.top (piece_at ps k).top
+      → Growing ps p count (record { rate = r; set = both; outside = rest; top = top }) k
   unfolding Piled in_order rated_pile swallow
   grow_turn k l is up r both more rest top e u m w t =
       record {
@@ -200,10 +198,10 @@ module _ {sets outsides tops : List ℕ} {rate : ℕ → FeeFrac} {p q : Piece} 
         grown = λ n anc c cs z x y. let g = h.grown n anc c cs z x y in go n anc c cs g g.below g.place g.piled g.ordered g.same;
       }
     where
-      go : (n : ℕ) (anc : ℕ → ℕ → Bool) (c : List ℕ) (cs : List (List ℕ)) (g : Grown n anc sets outsides tops rate p.rate c cs q) (below : List (List ℕ))
-          → length below ≡ q.at → Piled (HeldAt n anc sets outsides tops) below → in_order (g.chunk ∷ below) ≡ in_order (c ∷ cs)
-          → swallow (rated q.rate g.chunk) (rated_pile rate below) ≡ swallow (rated p.rate c) (rated_pile rate cs)
-          → Grown n anc sets outsides tops rate p.rate c cs (record { rate = r; set = both; outside = rest; top = top; at = k })
+      go : (n : ℕ) (anc : ℕ → ℕ → Bool) (c : List ℕ) (cs : List (List ℕ)) (g : Grown n anc ps p.rate c cs q at) (below : List (List ℕ))
+          → length below ≡ at → Piled (HeldAt n anc ps) below → in_order (g.chunk ∷ below) ≡ in_order (c ∷ cs)
+          → swallow (rated q.rate g.chunk) (rated_pile (rate_of ps) below) ≡ swallow (rated p.rate c) (rated_pile (rate_of ps) cs)
+          → Grown n anc ps p.rate c cs (record { rate = r; set = both; outside = rest; top = top }) k
       go n anc c cs g [] place piled ordered same = absurd (omega arith)
       go n anc c cs g (d ∷ ds) place piled ordered same =
           let z : length ds ≡ k = omega arith in
@@ -216,125 +214,103 @@ module _ {sets outsides tops : List ℕ} {rate : ℕ → FeeFrac} {p q : Piece} 
             piled = piled.1;
             ordered = sym (append_assoc (in_order ds) d g.chunk) ∙ ordered;
             same =
-                ap₂ (λ (x : FeeFrac) (l : ℕ). swallow (record { rate = x; len = l }) (rated_pile rate ds)) (e ∙ ap (λ (j : ℕ). sum q.rate (rate j)) (sym z)) long
+                ap₂ (λ (x : FeeFrac) (l : ℕ). swallow (record { rate = x; len = l }) (rated_pile (rate_of ps) ds)) (e ∙ ap (λ (j : ℕ). sum q.rate (rate_of ps j)) (sym z)) long
                 ∙ sym (ap (λ (b : Bool). cond b
-                (swallow (record { rate = sum q.rate (rate (length ds)); len = length g.chunk + length d }) (rated_pile rate ds))
-                (rated q.rate g.chunk ∷ rated (rate (length ds)) d ∷ rated_pile rate ds))
-                (ap (λ (j : ℕ). higher q.rate (rate j)) z ∙ up))
+                (swallow (record { rate = sum q.rate (rate_of ps (length ds)); len = length g.chunk + length d }) (rated_pile (rate_of ps) ds))
+                (rated q.rate g.chunk ∷ rated (rate_of ps (length ds)) d ∷ rated_pile (rate_of ps) ds))
+                (ap (λ (j : ℕ). higher q.rate (rate_of ps j)) z ∙ up))
                 ∙ same;
           }
 
 -- nothing more is swallowed: no chunk is left, or the piece is not above the one before it
-module _ {sets outsides tops : List ℕ} {sumFees : List ℤ} {sumSizes : List ℕ} {p q : Piece} (h : Growing sets outsides tops (rate_at sumFees sumSizes) p q) where
-  pub stopped_empty : q.at ≤ 0 → Swallowed sets outsides tops sumFees sumSizes p q
+module _ {ps : List Piece} {p q : Piece} {count at : ℕ} (h : Growing ps p count q at) where
+  pub stopped_empty : at ≤ 0 → Swallowed ps p count q at
   unfolding swallow rated_pile
   stopped_empty l = record { growing = h; stopped = none }
     where
-      none : (c : List ℕ) (cs : List (List ℕ)) → length cs ≡ q.at
-          → swallow (rated q.rate c) (rated_pile (rate_at sumFees sumSizes) cs) ≡ rated q.rate c ∷ rated_pile (rate_at sumFees sumSizes) cs
+      none : (c : List ℕ) (cs : List (List ℕ)) → length cs ≡ at
+          → swallow (rated q.rate c) (rated_pile (rate_of ps) cs) ≡ rated q.rate c ∷ rated_pile (rate_of ps) cs
       none c [] e = refl
       none c (d ∷ ds) e = absurd (omega arith)
 
-  pub stopped_top : (k : ℕ) → 0 < q.at → k ≡ q.at - 1 → higher q.rate (rate_at sumFees sumSizes k) ≡ false
-      → Swallowed sets outsides tops sumFees sumSizes p q
+  pub stopped_top : (k : ℕ) → 0 < at → k ≡ at - 1 → higher q.rate (rate_of ps k) ≡ false
+      → Swallowed ps p count q at
   unfolding swallow rated_pile
   stopped_top k l is low = record { growing = h; stopped = top }
     where
-      top : (c : List ℕ) (cs : List (List ℕ)) → length cs ≡ q.at
-          → swallow (rated q.rate c) (rated_pile (rate_at sumFees sumSizes) cs) ≡ rated q.rate c ∷ rated_pile (rate_at sumFees sumSizes) cs
+      top : (c : List ℕ) (cs : List (List ℕ)) → length cs ≡ at
+          → swallow (rated q.rate c) (rated_pile (rate_of ps) cs) ≡ rated q.rate c ∷ rated_pile (rate_of ps) cs
       top c [] e = refl
       top c (d ∷ ds) e =
           let z : length ds ≡ k = omega arith in
-          let rate = rate_at sumFees sumSizes in
           ap (λ (b : Bool). cond b
-          (swallow (record { rate = sum q.rate (rate (length ds)); len = length c + length d }) (rated_pile rate ds))
-          (rated q.rate c ∷ rated (rate (length ds)) d ∷ rated_pile rate ds))
-          (ap (λ (j : ℕ). higher q.rate (rate j)) z ∙ low)
+          (swallow (record { rate = sum q.rate (rate_of ps (length ds)); len = length c + length d }) (rated_pile (rate_of ps) ds))
+          (rated q.rate c ∷ rated (rate_of ps (length ds)) d ∷ rated_pile (rate_of ps) ds))
+          (ap (λ (j : ℕ). higher q.rate (rate_of ps j)) z ∙ low)
 
 -- ---- cut
 
 -- the first `count` places have the chunks of the first i of the order
-pub record Cutting (fs : List ℤ) (ss ancestors order sets outsides tops : List ℕ) (sumFees : List ℤ) (sumSizes : List ℕ) (count i : ℕ) : Type 0 where
+pub record Cutting (fs : List ℤ) (ss ancestors order : List ℕ) (ps : List Piece) (count i : ℕ) : Type 0 where
   pub up : i ≤ length order
   pub few : count ≤ i
-  pub stack : Stack sets outsides tops sumFees sumSizes
+  pub long : length ps ≡ positions
   pub pile : List (List ℕ)
   pub place : length pile ≡ count
-  pub piled : Piled (HeldAt (length fs) (mem_at ancestors) sets outsides tops) pile
+  pub piled : Piled (HeldAt (length fs) (mem_at ancestors) ps) pile
   pub ordered : in_order pile ≡ take i order
-  pub same : chunks_after (rated_pile (rate_at sumFees sumSizes) pile) (map (rate_at fs ss) (drop i order)) ≡ chunks_after [] (map (rate_at fs ss) order)
+  pub same : chunks_after (rated_pile (rate_of ps) pile) (map (rate_at fs ss) (drop i order)) ≡ chunks_after [] (map (rate_at fs ss) order)
 
-pub cut_start : {fs : List ℤ} {ss ancestors order sets outsides tops : List ℕ} {sumFees : List ℤ} {sumSizes : List ℕ}
-    → Stack sets outsides tops sumFees sumSizes → Cutting fs ss ancestors order sets outsides tops sumFees sumSizes 0 0
+pub cut_start : {fs : List ℤ} {ss ancestors order : List ℕ} {ps : List Piece} → length ps ≡ positions → Cutting fs ss ancestors order ps 0 0
 unfolding Piled in_order rated_pile
-cut_start h = record { up = omega arith; few = omega arith; stack = h; pile = []; place = refl; piled = tt; ordered = refl; same = refl }
+cut_start h = record { up = omega arith; few = omega arith; long = h; pile = []; place = refl; piled = tt; ordered = refl; same = refl }
 
-module _ {fs : List ℤ} {ss ancestors order sets outsides tops : List ℕ} {sumFees : List ℤ} {sumSizes : List ℕ} {count i : ℕ}
-    (h : Cutting fs ss ancestors order sets outsides tops sumFees sumSizes count i) where
+module _ {fs : List ℤ} {ss ancestors order : List ℕ} {ps : List Piece} {count i : ℕ} (h : Cutting fs ss ancestors order ps count i) where
   -- the next of the order, alone as p, has become q, which is pushed
-  module _ {p q : Piece} (one : Alone (length fs) (mem_at ancestors) (rate_at fs ss (get_or order i 0)) (get_or order i 0) count p)
-      (s : Swallowed sets outsides tops sumFees sumSizes p q) (l : i < length order) (short : length order ≤ positions) where
-    pub cut_place : q.at < positions
-    cut_place = omega (arith, h.few, one.place, s.growing.down)
+  module _ {p q : Piece} {at : ℕ} (one : Alone (length fs) (mem_at ancestors) (rate_at fs ss (get_or order i 0)) (get_or order i 0) p)
+      (s : Swallowed ps p count q at) (l : i < length order) (short : length order ≤ positions) where
+    pub cut_place : at < positions
+    cut_place = omega (arith, h.few, s.growing.down)
 
-    pub cut_turn : {sets' outsides' tops' : List ℕ} {sumFees' : List ℤ} {sumSizes' : List ℕ} → sets' ≡ put_at sets q.at q.set
-        → outsides' ≡ put_at outsides q.at q.outside → tops' ≡ set tops q.at q.top → sumFees' ≡ set sumFees q.at q.rate.fee
-        → sumSizes' ≡ set sumSizes q.at q.rate.size
-        → Cutting fs ss ancestors order sets' outsides' tops' sumFees' sumSizes' (q.at + 1) (i + 1)
+    pub cut_turn : Cutting fs ss ancestors order (set ps at q) (at + 1) (i + 1)
     unfolding Piled in_order rated_pile chunks_after
-    cut_turn a b c d e =
+    cut_turn =
         let t = get_or order i 0 in
-        let k = q.at in
-        let st = h.stack in
-        let at = cut_place in
-        let g = s.growing.grown (length fs) (mem_at ancestors) (t ∷ []) h.pile (h.place ∙ sym one.place) one.holds h.piled in
-        let rate = rate_at sumFees sumSizes in
-        let here = put_same sets k q.set (omega (arith, st.sets_long)) in
-        let here' = put_same outsides k q.outside (omega (arith, st.outsides_long)) in
-        let top = get_or-set_same tops k q.top 0 (omega (arith, st.tops_long)) in
-        let newest : rate_at (set sumFees k q.rate.fee) (set sumSizes k q.rate.size) (length g.below) ≡ q.rate =
-        rw g.place (rates'.put_same sumFees sumSizes k q.rate (omega (arith, st.fees_long)) (omega (arith, st.sizes_long))) in
+        let g = s.growing.grown (length fs) (mem_at ancestors) (t ∷ []) h.pile h.place one.holds h.piled in
+        let new = set ps at q in
+        let here : piece_at new at ≡ q = get_or-set_same ps at q no_piece (omega (arith, h.long, cut_place)) in
+        let there : (j : ℕ) → (j ≡ at → ⊥) → piece_at new j ≡ piece_at ps j = λ j n. get_or-set_other ps at j q no_piece n in
         let taken : take (i + 1) order ≡ take i order ++ (t ∷ []) = rw add-one (take-suc order i 0 l) in
         let dropped : drop i order ≡ t ∷ drop (i + 1) order = rw add-one (drop-cons order i 0 l) in
-        rw (a, b, c, d, e)
-        (record {
+        record {
           up = omega arith;
-          few = omega (arith, h.few, one.place, s.growing.down);
-          stack = record {
-            sets_long = length_put sets k q.set ∙ st.sets_long;
-            outsides_long = length_put outsides k q.outside ∙ st.outsides_long;
-            tops_long = length-set tops k q.top ∙ st.tops_long;
-            fees_long = length-set sumFees k q.rate.fee ∙ st.fees_long;
-            sizes_long = length-set sumSizes k q.rate.size ∙ st.sizes_long;
-          };
+          few = omega (arith, h.few, s.growing.down);
+          long = length-set ps at q ∙ h.long;
           pile = g.chunk ∷ g.below;
           place = omega (arith, g.place);
           piled = (
-            rw (g.place, here, here', top) g.holds,
-            piled_same (HeldAt (length fs) (mem_at ancestors) sets outsides tops)
-                (HeldAt (length fs) (mem_at ancestors) (put_at sets k q.set) (put_at outsides k q.outside) (set tops k q.top)) g.below (λ j x m y.
-                let n : k ≡ j → ⊥ = λ z. omega (arith, g.place) in
-                rw (put_other sets k j q.set n, put_other outsides k j q.outside n, get_or-set_other tops k j q.top 0 (λ z. n (sym z))) y)
-                g.piled,
+            rw (g.place, here) g.holds,
+            piled_same (HeldAt (length fs) (mem_at ancestors) ps) (HeldAt (length fs) (mem_at ancestors) new) g.below
+                (λ j x m y. rw (there j (λ z. omega (arith, g.place))) y) g.piled,
           );
           ordered = g.ordered ∙ ap (λ (x : List ℕ). x ++ (t ∷ [])) h.ordered ∙ sym taken;
           same =
               ap (λ (x : List Chunk). chunks_after x (map (rate_at fs ss) (drop (i + 1) order)))
-              (ap₂ (λ (x : FeeFrac) (y : List Chunk). rated x g.chunk ∷ y) newest
-              (rated_same _ rate g.below (λ j m. rates'.put_other sumFees sumSizes k j q.rate (λ z. omega (arith, g.place))))
+              (ap₂ (λ (x : FeeFrac) (y : List Chunk). rated x g.chunk ∷ y) (ap (λ (x : Piece). x.rate) (ap (piece_at new) g.place ∙ here))
+              (rated_same (rate_of new) (rate_of ps) g.below (λ j m. ap (λ (x : Piece). x.rate) (there j (λ z. omega (arith, g.place)))))
               ∙ sym (s.stopped g.chunk g.below g.place)
               ∙ g.same
-              ∙ ap (λ (x : FeeFrac). swallow (rated x (t ∷ [])) (rated_pile rate h.pile)) one.rate_is)
-              ∙ sym (ap (λ (x : List ℕ). chunks_after (rated_pile rate h.pile) (map (rate_at fs ss) x)) dropped)
+              ∙ ap (λ (x : FeeFrac). swallow (rated x (t ∷ [])) (rated_pile (rate_of ps) h.pile)) one.rate_is)
+              ∙ sym (ap (λ (x : List ℕ). chunks_after (rated_pile (rate_of ps) h.pile) (map (rate_at fs ss) x)) dropped)
               ∙ h.same;
-        })
+        }
 
   -- all of the order has come
   module _ (l : length order ≤ i) where
     turned : chunks_of fs ss order ≡ reverse_aux h.pile []
     unfolding chunks_of chunk_lengths chunks_after cut
     turned =
-        let rate = rate_at sumFees sumSizes in
+        let rate = rate_of ps in
         let made : rated_pile rate h.pile ≡ chunks_after [] (map (rate_at fs ss) order) =
         sym (ap (λ (x : List ℕ). chunks_after (rated_pile rate h.pile) (map (rate_at fs ss) x)) (drop_of_length-le order l)) ∙ h.same in
         let whole : in_order h.pile ≡ order = h.ordered ∙ take_all i order l in
@@ -342,10 +318,10 @@ module _ {fs : List ℤ} {ss ancestors order sets outsides tops : List ℕ} {sum
         ∙ sym (ap₂ (λ (x y : List ℕ). cut x y) (append-nil (lengths_of (rated_pile rate h.pile))) (append-nil (in_order h.pile)))
         ∙ cut_pile rate h.pile [] [] [] refl
 
-    pub cut_done : length order ≤ positions → Cut (length fs) (mem_at ancestors) (chunks_of fs ss order) sets outsides tops count
+    pub cut_done : length order ≤ positions → Cut (length fs) (mem_at ancestors) (chunks_of fs ss order) ps count
     cut_done short =
         record {
           count = sym h.place ∙ sym (ap length turned ∙ omega (arith, turned_length h.pile []));
           few = omega (arith, h.few, h.up);
-          holds = λ k b. rw turned (piled_at (HeldAt (length fs) (mem_at ancestors) sets outsides tops) h.pile [] h.piled k (omega (arith, h.place)));
+          holds = λ k b. rw turned (piled_at (HeldAt (length fs) (mem_at ancestors) ps) h.pile [] h.piled k (omega (arith, h.place)));
         }

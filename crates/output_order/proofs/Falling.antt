@@ -1,4 +1,5 @@
 -- Feerates that fall: none is higher than one before it, and none has the size zero, so that `higher` chains. Assumes nothing.
+use Rattle.std.proofs.Common.{Some}
 use Prim.Native.Nat.{ℕ, ◌+◌, ◌-◌, ◌≤◌, ◌<◌}
 use native.Mathlib.Omega.{arith}
 use mathlib.Core.Path.{◌≡◌, sym, ◌∙◌}
@@ -14,7 +15,7 @@ use Rattle.feefrac.proofs.Higher.{above_least, least_above, least_least, higher_
 use Rattle.txset.specs.declared.TxSet.{TxSet}
 use Rattle.txset.specs.Sets.{is_position, mem}
 use Rattle.output_order.specs.declared.Fall.{Fall}
-use Rattle.output_order.specs.Steps.{Drops, Falling, Fallen, FallsOn}
+use Rattle.output_order.specs.Steps.{Drops, Falling, Fallen, FallsFrom, FallsOn}
 
 -- of none there is nothing to say
 pub drops_none : (rate : ℕ → FeeFrac) (r : ℕ) (drops : TxSet) → ((i : ℕ) → mem drops i ≡ false) → Drops rate r drops
@@ -113,41 +114,23 @@ module _ {rate : ℕ → FeeFrac} {last : FeeFrac} {k : ℕ} {drops : TxSet} (h 
 
 -- ---- what is known, and that it may be nothing
 
--- of the first
-pub fallen_start : (rate : ℕ → FeeFrac) (last : FeeFrac) (drops : TxSet) → last ≡ rate 0 → ((i : ℕ) → mem drops i ≡ false)
-    → Fallen rate (record { last = last; drops = drops }) 1
-fallen_start rate last drops e none = record { ended = λ z. none; falling = λ n. falling_start rate last drops e n none }
+-- of one alone
+pub falls_from : (first : FeeFrac) (drops : TxSet) → (first.size ≡ 0 → ⊥) → ((i : ℕ) → mem drops i ≡ false)
+    → FallsFrom first (Some (record { last = first; drops = drops }))
+falls_from first drops n none = record { known = λ rate e. falling_start rate first drops e n none }
 
 -- of as many as were asked for, where the rates are these
-pub fallen_done : {rate : ℕ → FeeFrac} {f : Fall} {k r : ℕ} (put : ℕ → FeeFrac) → Fallen rate f k → r ≤ k → ((i : ℕ) → i < r → put i ≡ rate i)
+pub fallen_done : {rate : ℕ → FeeFrac} {f : Fall} {k r : ℕ} (put : ℕ → FeeFrac) → Fallen rate (Some f) k → r ≤ k → ((i : ℕ) → i < r → put i ≡ rate i)
     → Drops put r f.drops
-fallen_done {rate} {f} {k} {r} put h l same =
-    cases (eqb f.last.size 0)
-    (λ z. drops_none put r f.drops (h.ended (eqb-true f.last.size 0 z)))
-    (λ z.
-    let d = falling_done (h.falling (eqb-false f.last.size 0 z)) l in
-    record { falls = λ i d' j m a b c. rw (same i (omega arith), same j c) (d.falls i d' j m a b c) })
+fallen_done put h l same =
+    let d = falling_done h l in record { falls = λ i d' j m a b c. rw (same i (omega arith), same j c) (d.falls i d' j m a b c) }
 
-module _ (f : Fall) (next : FeeFrac) (k : ℕ) where
-  -- nothing is known, and so it stays
-  pub falls_not : f.last.size ≡ 0 → FallsOn f next k f
-  falls_not z = record { known = λ rate e h. record { ended = h.ended; falling = λ n. absurd (n z) } }
+module _ (f : Fall) (next : FeeFrac) (k : ℕ) (n : next.size ≡ 0 → ⊥) where
+  -- one more that is lower
+  pub falls_below : higher f.last next ≡ true → (more : TxSet) → ((i : ℕ) → mem more i ≡ (mem f.drops i || (is_position i && eqb i k)))
+      → FallsOn (Some f) next k (Some (record { last = next; drops = more }))
+  falls_below up more is = record { known = λ rate e h. falling_drops h e n (higher_one f.last next up) up more is }
 
-  -- nothing is known any more
-  pub falls_end : (last : FeeFrac) (drops : TxSet) → last.size ≡ 0 → ((i : ℕ) → mem drops i ≡ false) → FallsOn f next k (record { last = last; drops = drops })
-  falls_end last drops z none = record { known = λ rate e h. record { ended = λ _. none; falling = λ n. absurd (n z) } }
-
-  module _ (p : f.last.size ≡ 0 → ⊥) (n : next.size ≡ 0 → ⊥) where
-    -- one more that is lower
-    pub falls_below : higher f.last next ≡ true → (more : TxSet) → ((i : ℕ) → mem more i ≡ (mem f.drops i || (is_position i && eqb i k)))
-        → FallsOn f next k (record { last = next; drops = more })
-    falls_below up more is = record {
-      known = λ rate e h. record {
-        ended = λ z. absurd (n z);
-        falling = λ _. falling_drops (h.falling p) e n (higher_one f.last next up) up more is;
-      };
-    }
-
-    -- one more that is not
-    pub falls_level : higher next f.last ≡ false → FallsOn f next k (record { last = next; drops = f.drops })
-    falls_level low = record { known = λ rate e h. record { ended = λ z. absurd (n z); falling = λ _. falling_stays (h.falling p) e n low } }
+  -- one more that is not
+  pub falls_level : higher next f.last ≡ false → FallsOn (Some f) next k (Some (record { last = next; drops = f.drops }))
+  falls_level low = record { known = λ rate e h. falling_stays h e n low }

@@ -16,11 +16,10 @@ use Rattle.lists.proofs.Below.{all_ext, all_at, at_all}
 use Rattle.lists.proofs.Bools.{clash, is_true, is_false, implies, or_either, true_together}
 use Rattle.lists.proofs.Lists.{any_none, none_any}
 use Rattle.txset.proofs.Sets.{subset_mem, mem_subset, empty_mem}
-use Rattle.txset.proofs.Walk.{lowest_mem}
+use Rattle.txset.proofs.Walk.{Turn, lowest_mem}
 use Rattle.output_order.specs.Output.{chunk_ready, member_ready}
 use Rattle.output_order.specs.Steps.{All, needed}
 use Rattle.output_order.specs.Rounds.{freed, Within}
-use Rattle.output_order.proofs.Choices.{Next}
 
 -- what an implication that holds gives
 imp_elim : (a b : Bool) → (not a || b) ≡ true → a ≡ true → b ≡ true
@@ -37,7 +36,7 @@ freed_is ancestors all done d t h =
     (λ a _ _. ap (λ (b : Bool). not b || mem done a) (h a))
 
 -- one that is left alone is ready
-pub freed_alone : {ancestors : List ℕ} {all left done rest : TxSet} {t : ℕ} → Within ancestors all left done → Next left rest t → is_empty rest ≡ true
+pub freed_alone : {ancestors : List ℕ} {all left done rest : TxSet} {t : ℕ} → Within ancestors all left done → Turn left rest t → is_empty rest ≡ true
     → freed ancestors all done t ≡ true
 unfolding freed
 freed_alone {ancestors} {all} {left} {done} {rest} {t} h w none =
@@ -46,7 +45,7 @@ freed_alone {ancestors} {all} {left} {done} {rest} {t} h w none =
     let parts = (and-eq-true_iff (mem (set_at ancestors t) a && mem all a) (not (eqb a t))).0 e in
     let links = (and-eq-true_iff (mem (set_at ancestors t) a) (mem all a)).0 parts.0 in
     ⊎_elim
-    (λ l. clash (w.rest a ∙ ap₂ ◌&&◌ l (ap (λ (x : ℕ). not (eqb a x)) (sym w.first) ∙ parts.1)) (empty_mem rest none a))
+    (λ l. clash (w.next a ∙ ap₂ ◌&&◌ l (ap (λ (x : ℕ). not (eqb a x)) (sym w.first) ∙ parts.1)) (empty_mem rest none a))
     (λ d. d)
     (or_either (mem left a) (mem done a)
     (h.either t a (ap (mem left) w.first ∙ lowest_mem left w.left) links.0 links.1))))

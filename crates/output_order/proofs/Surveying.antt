@@ -1,92 +1,100 @@
 -- The loop of `survey` as a record over plain values, with a law for each thing that the code does: it starts, takes a turn, is done; and
 -- the sums of sets as those of chunks. Assumes nothing.
+use Rattle.std.proofs.Common.{Option, Some}
 use Prim.Native.Nat.{ℕ, ◌+◌, ◌≤◌, ◌<◌}
 use native.Mathlib.Omega.{arith}
-use mathlib.Core.Path.{◌≡◌, ap, ◌∙◌}
-use mathlib.Core.Bool.{Bool, false}
+use mathlib.Core.Path.{◌≡◌, refl, ap, ap₂, ◌∙◌}
+use mathlib.Core.Bool.{Bool}
 use mathlib.Core.List.{List}
 use lib.ListN.{length, set, length-set}
+use lib.Seq.{get_or-set_same, get_or-set_other}
 use lib.IntN.{ℤ}
 use borrow.Author.Count.{below_none, below_more}
 use Rattle.feefrac.specs.declared.FeeFrac.{FeeFrac}
-use Rattle.feefrac.specs.Rate.{rate_at}
-use Rattle.feefrac.proofs.Lists as rates'
-use Rattle.txset.specs.declared.TxSet.{TxSet}
 use Rattle.lists.specs.Lists.{elem}
-use Rattle.txset.specs.Sets.{positions, mem, members, set_at}
+use Rattle.txset.specs.Sets.{positions, mem, members}
 use Rattle.lists.proofs.Ranges.{list_below}
 use Rattle.feeset.specs.Total.{total}
 use Rattle.chunking.specs.Orders.{chunk_at}
 use Rattle.output_order.specs.Output.{chunk_rate}
 use Rattle.output_order.specs.declared.Fall.{Fall}
-use Rattle.output_order.specs.Steps.{Cut, Summed, Drops, Fallen, FallsOn}
-use Rattle.output_order.proofs.Falling.{fallen_start, fallen_done}
+use Rattle.output_order.specs.declared.Piece.{Piece}
+use Rattle.output_order.specs.Steps.{no_piece, piece_at, rate_of, summed, Cut, Summed, Drops, Fallen, FallsFrom, FallsOn}
+use Rattle.output_order.proofs.Falling.{fallen_done}
 
 -- the sum of the j-th set
-abbrev sum_of : List ℤ → List ℕ → List ℕ → ℕ → FeeFrac
-sum_of fs ss sets j = total fs ss (members (set_at sets j))
+abbrev sum_of : List ℤ → List ℕ → List Piece → ℕ → FeeFrac
+sum_of fs ss ps j = total fs ss (members (piece_at ps j).set)
 
--- the first k are written, and `fall` is what is known of them
-pub record Surveying (fs : List ℤ) (ss sets : List ℕ) (sumFees : List ℤ) (sumSizes : List ℕ) (fall : Fall) (k : ℕ) : Type 0 where
-  pub fees_long : length sumFees ≡ positions
-  pub sizes_long : length sumSizes ≡ positions
-  pub sums : Summed fs ss sets sumFees sumSizes k
-  pub fallen : Fallen (sum_of fs ss sets) fall k
+-- the first k of `old` have got their sums, and `fall` is what is known of them
+pub record Surveying (fs : List ℤ) (ss : List ℕ) (old new : List Piece) (fall : Option Fall) (k : ℕ) : Type 0 where
+  pub long : length new ≡ positions
+  pub sums : Summed fs ss old new k
+  pub rest : (j : ℕ) → k ≤ j → piece_at new j ≡ piece_at old j
+  pub fallen : Fallen (sum_of fs ss old) fall k
 
--- the sum of a set, s, is put
-summed_turn : {fs : List ℤ} {ss sets : List ℕ} {sumFees : List ℤ} {sumSizes : List ℕ} {k : ℕ} → Summed fs ss sets sumFees sumSizes k
-    → k < length sumFees → k < length sumSizes → {s : TxSet} {r : FeeFrac} {newf : List ℤ} {news : List ℕ} → s ≡ set_at sets k
-    → r ≡ total fs ss (members s) → newf ≡ set sumFees k r.fee → news ≡ set sumSizes k r.size
-    → Summed fs ss sets newf news (k + 1)
-summed_turn {fs} {ss} {sets} {sumFees} {sumSizes} {k} h l m {r = r} e t q v =
-    rw (q, v) (record {
-      are = below_more (λ j. rate_at (set sumFees k r.fee) (set sumSizes k r.size) j ≡ sum_of fs ss sets j) k
-          (λ j b. rates'.put_other sumFees sumSizes k j r (λ z. omega arith) ∙ h.are j b)
-          (rates'.put_same sumFees sumSizes k r l m ∙ t ∙ ap (λ (y : TxSet). total fs ss (members y)) e);
-    })
+-- the k-th gets its sum, r
+abbrev pub with_rate : FeeFrac → Piece → Piece
+with_rate r p = record { rate = r; set = p.set; outside = p.outside; top = p.top }
 
--- the lists are as long as before
-kept_long : {A : Type 0} {new : List A} (old : List A) (k : ℕ) (x : A) → new ≡ set old k x → length old ≡ positions → length new ≡ positions
-kept_long old k x e l = ap length e ∙ length-set old k x ∙ l
+module _ {fs : List ℤ} {ss : List ℕ} {old new : List Piece} {k : ℕ} (sums : Summed fs ss old new k) (rest : (j : ℕ) → k ≤ j → piece_at new j ≡ piece_at old j)
+    (b : k < length new) {r : FeeFrac} (e : r ≡ total fs ss (members (piece_at new k).set)) where
+  sum_is : r ≡ sum_of fs ss old k
+  sum_is = e ∙ ap (λ (p : Piece). total fs ss (members p.set)) (rest k (omega arith))
+
+  summed_turn : Summed fs ss old (set new k (with_rate r (piece_at new k))) (k + 1)
+  summed_turn = record {
+    are = below_more (λ j. piece_at (set new k (with_rate r (piece_at new k))) j ≡ summed fs ss (piece_at old j)) k
+        (λ j l. get_or-set_other new k j (with_rate r (piece_at new k)) no_piece (λ z. omega arith) ∙ sums.are j l)
+        (get_or-set_same new k (with_rate r (piece_at new k)) no_piece b ∙ ap₂ with_rate sum_is (rest k (omega arith)));
+  }
+
+  rest_turn : (j : ℕ) → k + 1 ≤ j → piece_at (set new k (with_rate r (piece_at new k))) j ≡ piece_at old j
+  rest_turn j l = get_or-set_other new k j (with_rate r (piece_at new k)) no_piece (λ z. omega arith) ∙ rest j (omega arith)
 
 -- the first
-pub survey_start : {fs : List ℤ} {ss sets : List ℕ} (sumFees : List ℤ) (sumSizes : List ℕ) → length sumFees ≡ positions → length sumSizes ≡ positions
-    → {s : TxSet} {r : FeeFrac} {newf : List ℤ} {news : List ℕ} (drops : TxSet) → s ≡ set_at sets 0 → r ≡ total fs ss (members s)
-    → newf ≡ set sumFees 0 r.fee → news ≡ set sumSizes 0 r.size → ((i : ℕ) → mem drops i ≡ false)
-    → Surveying fs ss sets newf news (record { last = r; drops = drops }) 1
-survey_start {fs} {ss} {sets} sumFees sumSizes l m {r = r} drops e t q v none =
+pub survey_start : {fs : List ℤ} {ss : List ℕ} (old : List Piece) → length old ≡ positions → {r : FeeFrac} {fall : Option Fall}
+    → r ≡ total fs ss (members (piece_at old 0).set) → FallsFrom r fall → Surveying fs ss old (set old 0 (with_rate r (piece_at old 0))) fall 1
+survey_start {fs} {ss} old l {r} e from =
+    let none : Summed fs ss old old 0 = record { are = below_none _ } in
+    let b : 0 < length old = omega (arith, l) in
     record {
-      fees_long = kept_long sumFees 0 r.fee q l;
-      sizes_long = kept_long sumSizes 0 r.size v m;
-      sums = summed_turn {sumFees = sumFees} {sumSizes = sumSizes} (record { are = below_none _ }) (omega (arith, l)) (omega (arith, m)) e t q v;
-      fallen = fallen_start (sum_of fs ss sets) r drops (t ∙ ap (λ (y : TxSet). total fs ss (members y)) e) none;
+      long = length-set old 0 (with_rate r (piece_at old 0)) ∙ l;
+      sums = summed_turn none (λ j _. refl) b e;
+      rest = rest_turn none (λ j _. refl) b e;
+      fallen = from.known (sum_of fs ss old) e;
     }
 
-module _ {fs : List ℤ} {ss sets : List ℕ} {sumFees : List ℤ} {sumSizes : List ℕ} {fall : Fall} {k : ℕ}
-    (h : Surveying fs ss sets sumFees sumSizes fall k) where
+module _ {fs : List ℤ} {ss : List ℕ} {old new : List Piece} {fall : Option Fall} {k : ℕ} (h : Surveying fs ss old new fall k) where
   -- one more
-  pub survey_turn : k < positions → {s : TxSet} {r : FeeFrac} {newf : List ℤ} {news : List ℕ} {next : Fall} → s ≡ set_at sets k
-      → r ≡ total fs ss (members s) → newf ≡ set sumFees k r.fee → news ≡ set sumSizes k r.size → FallsOn fall r k next
-      → Surveying fs ss sets newf news next (k + 1)
-  survey_turn b {r = r} e t q v on =
+  pub survey_turn : k < positions → {r : FeeFrac} {next : Option Fall} → r ≡ total fs ss (members (piece_at new k).set) → FallsOn fall r k next
+      → Surveying fs ss old (set new k (with_rate r (piece_at new k))) next (k + 1)
+  survey_turn l {r} e on =
+      let b : k < length new = omega (arith, h.long) in
       record {
-        fees_long = kept_long sumFees k r.fee q h.fees_long;
-        sizes_long = kept_long sumSizes k r.size v h.sizes_long;
-        sums = summed_turn h.sums (omega (arith, h.fees_long)) (omega (arith, h.sizes_long)) e t q v;
-        fallen = on.known (sum_of fs ss sets) (t ∙ ap (λ (y : TxSet). total fs ss (members y)) e) h.fallen;
+        long = length-set new k (with_rate r (piece_at new k)) ∙ h.long;
+        sums = summed_turn h.sums h.rest b e;
+        rest = rest_turn h.sums h.rest b e;
+        fallen = on.known (sum_of fs ss old) (sum_is h.sums h.rest b e) h.fallen;
       }
 
   -- as many as were asked for
-  pub survey_sums : {r : ℕ} → r ≤ k → Summed fs ss sets sumFees sumSizes r
+  pub survey_sums : {r : ℕ} → r ≤ k → Summed fs ss old new r
   survey_sums l = record { are = λ j b. h.sums.are j (omega arith) }
 
-  pub survey_drops : {r : ℕ} → r ≤ k → Drops (rate_at sumFees sumSizes) r fall.drops
-  survey_drops l = fallen_done (rate_at sumFees sumSizes) h.fallen l (λ i b. h.sums.are i (omega arith))
+  pub survey_drops : {r : ℕ} {f : Fall} → r ≤ k → fall ≡ Some f → Drops (rate_of new) r f.drops
+  survey_drops {f = f} l is =
+      let fallen : Fallen (sum_of fs ss old) (Some f) k = rw is at h.fallen in
+      fallen_done (rate_of new) fallen l (λ i b. ap (λ (p : Piece). p.rate) (h.sums.are i (omega arith)))
 
--- so where the sets hold the chunks, each set's sum is its chunk's
-pub chunk_rates : {fs : List ℤ} {ss : List ℕ} {n : ℕ} {anc : ℕ → ℕ → Bool} {sets : List ℕ} {sumFees : List ℤ} {sumSizes : List ℕ} {r : ℕ}
-    (cs : List (List ℕ)) {outsides tops : List ℕ} → n ≤ positions → Cut n anc cs sets outsides tops r → Summed fs ss sets sumFees sumSizes r
-    → (k : ℕ) → k < r → rate_at sumFees sumSizes k ≡ chunk_rate fs ss n (chunk_at cs k)
-unfolding chunk_rate members
-chunk_rates {fs} {ss} {n} {sets = sets} cs few c sums k l =
-    sums.are k l ∙ ap (total fs ss) (list_below (mem (set_at sets k)) (λ i. elem i (chunk_at cs k)) n positions few (c.holds k l).members)
+-- so where the pieces hold the chunks, they still do, and each sum is that of its chunk
+module _ {fs : List ℤ} {ss : List ℕ} {n : ℕ} {anc : ℕ → ℕ → Bool} {old new : List Piece} {r : ℕ} {cs : List (List ℕ)} (c : Cut n anc cs old r)
+    (sums : Summed fs ss old new r) where
+  pub chunks_stay : Cut n anc cs new r
+  chunks_stay = record { count = c.count; few = c.few; holds = λ k l. rw (sums.are k l) (c.holds k l) }
+
+  pub chunk_rates : n ≤ positions → (k : ℕ) → k < r → rate_of new k ≡ chunk_rate fs ss n (chunk_at cs k)
+  unfolding chunk_rate members
+  chunk_rates few k l =
+      ap (λ (p : Piece). p.rate) (sums.are k l)
+      ∙ ap (total fs ss) (list_below (mem (piece_at old k).set) (λ i. elem i (chunk_at cs k)) n positions few (c.holds k l).members)

@@ -1,41 +1,39 @@
 -- What the functions that choose and put out speak of: no contract outside this crate cites these. Assumes nothing.
-use Rattle.std.specs.Prelude.{ℕ, ◌≤◌, ◌<◌, ◌≡◌, Bool, true, cond, not, ◌&&◌, ◌||◌, List, [], ◌∷◌, ◌++◌, length, drop, get_or, eqb, ltb, ℤ}
+use Rattle.std.specs.Prelude.{ℕ, ◌≤◌, ◌<◌, ◌≡◌, Bool, true, not, ◌&&◌, ◌||◌, List, [], ◌∷◌, ◌++◌, length, drop, eqb, ltb, ℤ, Option, Some, None}
 use Rattle.feefrac.specs.Rate.{rank_order, size_order, then_by, is_greater, rate_at}
 use Rattle.txset.specs.declared.TxSet.{TxSet}
 use Rattle.lists.specs.Below.{all_from}
 use Rattle.lists.specs.Lists.{elem, only}
 use Rattle.txset.specs.Sets.{positions, mem, members, size, is_subset, set_at}
 use Rattle.feeset.specs.Scan.{best, ranks_above}
-use Rattle.output_order.specs.declared.Choice.{Choice}
-use Rattle.output_order.specs.declared.Choice.TheVariants.{Of, Nothing}
 use Rattle.output_order.specs.declared.Out.{Out}
+use Rattle.output_order.specs.declared.Piece.{Piece}
+use Rattle.output_order.specs.Steps.{piece_at}
 use Rattle.output_order.specs.Output.{inside}
 
--- a choice as a list of one or none
-abbrev pub chosen : Choice → List ℕ
-chosen (Of k) = k ∷ []
-chosen Nothing = []
+-- what was chosen, as a list of one or none
+abbrev pub chosen : Option ℕ → List ℕ
+chosen (Some k) = k ∷ []
+chosen None = []
 
--- what a scan has found as a list of one or none: no position is nothing
-abbrev pub found_of : ℕ → List ℕ
-found_of found = cond (eqb found positions) [] (found ∷ [])
+-- one chunk goes before another, by their sums and their highest positions
+unfoldable pub piece_above : Piece → Piece → Bool
+piece_above p q = is_greater (then_by (rank_order p.rate q.rate) (size_order q.top p.top))
 
--- chunk j goes before chunk k, by their sums and their highest positions
-unfoldable pub sum_above : List ℤ → List ℕ → List ℕ → ℕ → ℕ → Bool
-sum_above sumFees sumSizes tops j k =
-    is_greater (then_by (rank_order (rate_at sumFees sumSizes j) (rate_at sumFees sumSizes k)) (size_order (get_or tops k 0) (get_or tops j 0)))
+abbrev pub sum_above : List Piece → ℕ → ℕ → Bool
+sum_above ps j k = piece_above (piece_at ps j) (piece_at ps k)
 
 -- what chunk k has outside it is done
-abbrev pub covered : List ℕ → TxSet → ℕ → Bool
-covered outsides done k = is_subset (set_at outsides k) done
+abbrev pub covered : List Piece → TxSet → ℕ → Bool
+covered ps done k = is_subset (piece_at ps k).outside done
 
 -- the ancestors of t other than t that are in `all` are done
 unfoldable pub freed : List ℕ → TxSet → TxSet → ℕ → Bool
 freed ancestors all done t = all_from (λ a. not ((mem (set_at ancestors t) a && mem all a) && not (eqb a t)) || mem done a) positions 0
 
 -- of the chunks left the one to go next, by the sets; none where none is ready
-abbrev pub chunk_of : List ℕ → List ℤ → List ℕ → List ℕ → TxSet → TxSet → List ℕ
-chunk_of outsides sumFees sumSizes tops left done = best (sum_above sumFees sumSizes tops) (only (covered outsides done) (members left))
+abbrev pub chunk_of : List Piece → TxSet → TxSet → List ℕ
+chunk_of ps left done = best (sum_above ps) (only (covered ps done) (members left))
 
 -- of the members left the one to go next, by the sets; none where none is ready
 abbrev pub member_of : List ℤ → List ℕ → List ℕ → TxSet → TxSet → TxSet → List ℕ

@@ -1,10 +1,10 @@
 -- What the functions below output_order speak of: no contract outside this crate cites these. Assumes nothing.
-use Rattle.std.specs.Prelude.{ℕ, ◌+◌, ◌-◌, ◌≤◌, ◌<◌, ◌≡◌, Bool, true, false, not, ◌&&◌, List, [], ◌∷◌, ◌++◌, length, get_or, ltb, ℤ}
+use Rattle.std.specs.Prelude.{ℕ, ◌+◌, ◌-◌, ◌≤◌, ◌<◌, ◌≡◌, Bool, true, false, not, ◌&&◌, List, [], ◌∷◌, ◌++◌, length, get_or, ltb, ℤ, Option, IfSome}
 use Rattle.feefrac.specs.declared.FeeFrac.{FeeFrac}
-use Rattle.feefrac.specs.Rate.{rate_at, higher}
+use Rattle.feefrac.specs.Rate.{zero_rate, higher}
 use Rattle.txset.specs.declared.TxSet.{TxSet}
 use Rattle.lists.specs.Lists.{any_of, elem, highest_of}
-use Rattle.txset.specs.Sets.{positions, set_words, mem, members, set_at}
+use Rattle.txset.specs.Sets.{positions, mem, members}
 use Rattle.feeset.specs.Total.{total}
 use Rattle.chunking.specs.declared.Chunk.{Chunk}
 use Rattle.chunking.specs.Chunks.{swallow}
@@ -29,25 +29,30 @@ pub record Holds (n : ℕ) (anc : ℕ → ℕ → Bool) (c : List ℕ) (set outs
   pub outsiders : (a : ℕ) → mem outside a ≡ (ltb a n && (needed n anc c a && not (elem a c)))
   pub highest : top ≡ highest_of c
 
--- the lists of the cut have a place for each position
-pub record Stack (sets outsides tops : List ℕ) (sumFees : List ℤ) (sumSizes : List ℕ) : Type 0 where
-  pub sets_long : length sets ≡ set_words
-  pub outsides_long : length outsides ≡ set_words
-  pub tops_long : length tops ≡ positions
-  pub fees_long : length sumFees ≡ positions
-  pub sizes_long : length sumSizes ≡ positions
+-- what a list of chunks has at a place; past its end, a chunk of no members
+abbrev pub no_piece : Piece
+no_piece = record { rate = zero_rate; set = record { word = 0 }; outside = record { word = 0 }; top = 0 }
+
+abbrev pub piece_at : List Piece → ℕ → Piece
+piece_at ps k = get_or ps k no_piece
+
+abbrev pub rate_of : List Piece → ℕ → FeeFrac
+rate_of ps k = (piece_at ps k).rate
+
+-- what a piece is of a chunk
+abbrev pub HoldsAs : ℕ → (ℕ → ℕ → Bool) → List ℕ → Piece → Type 0
+HoldsAs n anc c p = Holds n anc c p.set p.outside p.top
 
 -- r chunks, and what is held of each
-pub record Cut (n : ℕ) (anc : ℕ → ℕ → Bool) (cs : List (List ℕ)) (sets outsides tops : List ℕ) (r : ℕ) : Type 0 where
+pub record Cut (n : ℕ) (anc : ℕ → ℕ → Bool) (cs : List (List ℕ)) (ps : List Piece) (r : ℕ) : Type 0 where
   pub count : r ≡ length cs
   pub few : r ≤ positions
-  pub holds : (k : ℕ) → k < r → Holds n anc (chunk_at cs k) (set_at sets k) (set_at outsides k) (get_or tops k 0)
+  pub holds : (k : ℕ) → k < r → HoldsAs n anc (chunk_at cs k) (piece_at ps k)
 
--- p is t alone, with its feerate, at a place
-pub record Alone (n : ℕ) (anc : ℕ → ℕ → Bool) (rate : FeeFrac) (t at : ℕ) (p : Piece) : Type 0 where
-  pub holds : Holds n anc (t ∷ []) p.set p.outside p.top
+-- p is t alone, with its feerate
+pub record Alone (n : ℕ) (anc : ℕ → ℕ → Bool) (rate : FeeFrac) (t : ℕ) (p : Piece) : Type 0 where
+  pub holds : HoldsAs n anc (t ∷ []) p
   pub rate_is : p.rate ≡ rate
-  pub place : p.at ≡ at
 
 -- a pile of chunks, the last first: each has P at its place, which is the number of those below it
 unfoldable pub Piled : (ℕ → List ℕ → Type 0) → List (List ℕ) → Type 0
@@ -67,38 +72,42 @@ unfoldable pub rated_pile : (ℕ → FeeFrac) → List (List ℕ) → List Chunk
 rated_pile rate [] = []
 rated_pile rate (c ∷ cs) = rated (rate (length cs)) c ∷ rated_pile rate cs
 
--- what the lists hold of a chunk at a place
-abbrev pub HeldAt : ℕ → (ℕ → ℕ → Bool) → List ℕ → List ℕ → List ℕ → ℕ → List ℕ → Type 0
-HeldAt n anc sets outsides tops k c = Holds n anc c (set_at sets k) (set_at outsides k) (get_or tops k 0)
+-- what the list holds of a chunk at a place
+abbrev pub HeldAt : ℕ → (ℕ → ℕ → Bool) → List Piece → ℕ → List ℕ → Type 0
+HeldAt n anc ps k c = HoldsAs n anc c (piece_at ps k)
 
--- a piece q that was c with the feerate r, on a pile cs, has become `chunk` on the pile `below`, with the same members in the same order; module 4's
--- swallowing gives the same from here
-pub record Grown (n : ℕ) (anc : ℕ → ℕ → Bool) (sets outsides tops : List ℕ) (rate : ℕ → FeeFrac) (r : FeeFrac) (c : List ℕ) (cs : List (List ℕ)) (q : Piece) : Type 0 where
+-- a piece that was c with the feerate r, on a pile cs, has become q, of `chunk` on the pile `below` of `at` chunks, with the same members in the same
+-- order; module 4's swallowing gives the same from here
+pub record Grown (n : ℕ) (anc : ℕ → ℕ → Bool) (ps : List Piece) (r : FeeFrac) (c : List ℕ) (cs : List (List ℕ)) (q : Piece) (at : ℕ) : Type 0 where
   pub chunk : List ℕ
   pub below : List (List ℕ)
-  pub place : length below ≡ q.at
-  pub holds : Holds n anc chunk q.set q.outside q.top
-  pub piled : Piled (HeldAt n anc sets outsides tops) below
+  pub place : length below ≡ at
+  pub holds : HoldsAs n anc chunk q
+  pub piled : Piled (HeldAt n anc ps) below
   pub ordered : in_order (chunk ∷ below) ≡ in_order (c ∷ cs)
-  pub same : swallow (rated q.rate chunk) (rated_pile rate below) ≡ swallow (rated r c) (rated_pile rate cs)
+  pub same : swallow (rated q.rate chunk) (rated_pile (rate_of ps) below) ≡ swallow (rated r c) (rated_pile (rate_of ps) cs)
 
--- so it is for whatever the piece p held and stood on
-pub record Growing (sets outsides tops : List ℕ) (rate : ℕ → FeeFrac) (p q : Piece) : Type 0 where
-  pub down : q.at ≤ p.at
-  pub grown : (n : ℕ) (anc : ℕ → ℕ → Bool) (c : List ℕ) (cs : List (List ℕ)) → length cs ≡ p.at → Holds n anc c p.set p.outside p.top
-      → Piled (HeldAt n anc sets outsides tops) cs → Grown n anc sets outsides tops rate p.rate c cs q
+-- so it is for whatever the piece p held, and whatever `count` chunks it stood on
+pub record Growing (ps : List Piece) (p : Piece) (count : ℕ) (q : Piece) (at : ℕ) : Type 0 where
+  pub down : at ≤ count
+  pub grown : (n : ℕ) (anc : ℕ → ℕ → Bool) (c : List ℕ) (cs : List (List ℕ)) → length cs ≡ count → HoldsAs n anc c p
+      → Piled (HeldAt n anc ps) cs → Grown n anc ps p.rate c cs q at
 
 -- and nothing more is swallowed
-pub record Swallowed (sets outsides tops : List ℕ) (sumFees : List ℤ) (sumSizes : List ℕ) (p q : Piece) : Type 0 where
-  pub growing : Growing sets outsides tops (rate_at sumFees sumSizes) p q
-  pub stopped : (c : List ℕ) (cs : List (List ℕ)) → length cs ≡ q.at
-      → swallow (rated q.rate c) (rated_pile (rate_at sumFees sumSizes) cs) ≡ rated q.rate c ∷ rated_pile (rate_at sumFees sumSizes) cs
+pub record Swallowed (ps : List Piece) (p : Piece) (count : ℕ) (q : Piece) (at : ℕ) : Type 0 where
+  pub growing : Growing ps p count q at
+  pub stopped : (c : List ℕ) (cs : List (List ℕ)) → length cs ≡ at
+      → swallow (rated q.rate c) (rated_pile (rate_of ps) cs) ≡ rated q.rate c ∷ rated_pile (rate_of ps) cs
 
 -- ---- what is known of the chunks
 
--- of the first r sets: the feerate sum
-pub record Summed (fs : List ℤ) (ss sets : List ℕ) (sumFees : List ℤ) (sumSizes : List ℕ) (r : ℕ) : Type 0 where
-  pub are : (k : ℕ) → k < r → rate_at sumFees sumSizes k ≡ total fs ss (members (set_at sets k))
+-- a piece with the feerate sum of its set
+abbrev pub summed : List ℤ → List ℕ → Piece → Piece
+summed fs ss p = record { rate = total fs ss (members p.set); set = p.set; outside = p.outside; top = p.top }
+
+-- so are the first r
+pub record Summed (fs : List ℤ) (ss : List ℕ) (old new : List Piece) (r : ℕ) : Type 0 where
+  pub are : (k : ℕ) → k < r → piece_at new k ≡ summed fs ss (piece_at old k)
 
 -- each of `drops`, and each behind it in `left`, is below all before it
 pub record Below (rate : ℕ → FeeFrac) (left drops : TxSet) : Type 0 where
@@ -117,11 +126,14 @@ pub record Falling (rate : ℕ → FeeFrac) (last : FeeFrac) (k : ℕ) (drops : 
   pub within : (d : ℕ) → mem drops d ≡ true → d < k
   pub below : (i d j : ℕ) → mem drops d ≡ true → i < d → d ≤ j → j < k → higher (rate i) (rate j) ≡ true
 
--- what is known of the first k: that they fall, or nothing where the last has the size 0
-pub record Fallen (rate : ℕ → FeeFrac) (f : Fall) (k : ℕ) : Type 0 where
-  pub ended : f.last.size ≡ 0 → (i : ℕ) → mem f.drops i ≡ false
-  pub falling : (f.last.size ≡ 0 → ⊥) → Falling rate f.last k f.drops
+-- what is known of the first k: that they fall, or nothing
+abbrev pub Fallen : (ℕ → FeeFrac) → Option Fall → ℕ → Type 0
+Fallen rate fall k = IfSome fall (λ f. Falling rate f.last k f.drops)
+
+-- f is what is known of one alone
+pub record FallsFrom (first : FeeFrac) (f : Option Fall) : Type 0 where
+  pub known : (rate : ℕ → FeeFrac) → first ≡ rate 0 → Fallen rate f 1
 
 -- f has become g by one more, the k-th
-pub record FallsOn (f : Fall) (next : FeeFrac) (k : ℕ) (g : Fall) : Type 0 where
+pub record FallsOn (f : Option Fall) (next : FeeFrac) (k : ℕ) (g : Option Fall) : Type 0 where
   pub known : (rate : ℕ → FeeFrac) → next ≡ rate k → Fallen rate f k → Fallen rate g (k + 1)

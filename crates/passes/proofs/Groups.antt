@@ -5,10 +5,11 @@ use mathlib.Core.List.{List, [], ◌∷◌}
 use Prim.Native.Nat.{ℕ, ◌-◌, ◌<◌}
 use native.Mathlib.Omega.{arith}
 use lib.Dec.{eqb}
-use lib.ListN.{length, length-append}
+use lib.ListN.{length, get_or, set, length-append}
+use lib.Seq.{get_or-set_same, get_or-set_other}
 use borrow.Author.Tests.{lt-ltb}
 use Rattle.feefrac.specs.declared.FeeFrac.{FeeFrac}
-use Rattle.feefrac.specs.Rate.{sum}
+use Rattle.feefrac.specs.Rate.{zero_rate, sum}
 use Rattle.txset.specs.declared.TxSet.{TxSet}
 use Rattle.lists.specs.Lists.{any_of, elem}
 use Rattle.txset.specs.Sets.{positions, is_position, mem, overlap, set_at, mem_at}
@@ -82,10 +83,17 @@ module _ {ws : List ℕ} {cur prev : Summary} {g p : Group} (a : Stands ws cur g
       (λ n. none_any (λ t. any_of (mem_at ws t) p.txs) g.txs (λ t e. none_any (mem_at ws t) p.txs (apart n t e)))
       (λ n. mem_disjoint cur.deps prev.set (unmet n))
 
+-- the i-th of an array of summaries
+abbrev pub nth : List Summary → ℕ → Summary
+nth xs i = get_or xs i (record { len = 0; set = record { word = 0 }; deps = record { word = 0 }; rate = zero_rate })
+
 -- an array with s at the place k, and all else as it was
 pub record Stored (old new : ℕ → Summary) (k : ℕ) (s : Summary) : Type 0 where
   pub here : new k ≡ s
   pub there : (i : ℕ) → (i ≡ k → ⊥) → new i ≡ old i
+
+pub stored : (xs : List Summary) (k : ℕ) (s : Summary) → k < length xs → Stored (nth xs) (nth (set xs k s)) k s
+stored xs k s h = record { here = get_or-set_same xs k s _ h; there = λ i n. get_or-set_other xs k i s _ n }
 
 -- summaries of an array stand for these groups: the bottom one's at `place 0`, the next one's at `place 1`, and so on up to the first
 pub data Stack (place : ℕ → ℕ) (ws : List ℕ) (xs : ℕ → Summary) : List Group → Type 0 where
@@ -101,12 +109,16 @@ Near = Stack (λ n. n)
 abbrev pub Far : ℕ → List ℕ → (ℕ → Summary) → List Group → Type 0
 Far m = Stack (λ n. m - 1 - n)
 
+-- what is as it was at its places leaves a stack as it is
+pub stack_same : {place : ℕ → ℕ} {ws : List ℕ} {old new : ℕ → Summary} {gs : List Group} → ((n : ℕ) → n < length gs → new (place n) ≡ old (place n))
+    → Stack place ws old gs → Stack place ws new gs
+stack_same h none = none
+stack_same h (more g gs n t v) = more g gs n (rw (h (length gs) (omega arith)) t) (stack_same (λ i l. h i (omega arith)) v)
+
 module _ {place : ℕ → ℕ} {ws : List ℕ} {old new : ℕ → Summary} {k : ℕ} {s : Summary} (e : Stored old new k s) where
-  -- a store at none of its places leaves a stack as it is
+  -- so does a store at none of them
   pub stack_kept : {gs : List Group} → ((n : ℕ) → n < length gs → place n ≡ k → ⊥) → Stack place ws old gs → Stack place ws new gs
-  stack_kept h none = none
-  stack_kept h (more g gs n t v) =
-      more g gs n (rw (e.there (place (length gs)) (h (length gs) (omega arith))) t) (stack_kept (λ i l. h i (omega arith)) v)
+  stack_kept h = stack_same (λ n l. e.there (place n) (h n l))
 
   -- a store at the place after them is a push
   pub stack_push : {gs : List Group} {g : Group} → Stack place ws old gs → k ≡ place (length gs)

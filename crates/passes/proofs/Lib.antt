@@ -1,6 +1,5 @@
 pub mod Groups
 pub mod Ordered
-pub mod Rows
+pub mod Parts
 pub mod Scan
 pub mod Theorems
-pub mod Turns

@@ -14,8 +14,8 @@ use Rattle.passes.specs.declared.pass.Group.{Group as Summary}
 use Rattle.passes.specs.Moves.{brought}
 use Rattle.passes.specs.Summary.{Joined}
 use Rattle.passes.specs.Pass.{Group, absorb, depends_on, settle, alone, groups_after, flat, one_pass}
-use Rattle.passes.proofs.Groups.{Stands, joined_stands, overlap_depends, Stack, none, more, Near, Far, Stored, stack_kept, stack_push}
-use Rattle.passes.proofs.Turns.{mid_at, put_at_lem, length_brought}
+use Rattle.passes.proofs.Groups.{Stands, joined_stands, overlap_depends, Stack, none, more, Near, Far, Stored, stack_same, stack_kept, stack_push}
+use Rattle.passes.proofs.Parts.{mid_at, put_at_lem, length_brought}
 
 -- ---- lists of groups
 
@@ -315,33 +315,35 @@ module _ {m : ℕ} {ws : List ℕ} {goal : List Group} {rest order : List ℕ} {
 
 -- ---- after the scan
 
--- the groups stepped over go back on top, one by one: bs stand in the array already, os are still to come
-pub record Back (m : ℕ) (ws : List ℕ) (goal : List Group) (groups : ℕ → Summary) (count over : ℕ) : Type 0 where
-  pub bs : List Group
-  pub os : List Group
-  pub under : Near ws groups bs
-  pub gone : Far m ws groups os
-  pub low : count ≡ length bs
-  pub high : over ≡ length os
-  pub comes : reverse_aux os bs ≡ goal
+-- the groups stepped over wait at the end of the array: copied to where those under them end, they stand on top, the last one first
+put_back : {m : ℕ} {ws : List ℕ} {old new : ℕ → Summary} {os bs : List Group} → Far m ws old os → Near ws new bs → length os ≤ m
+    → ((i : ℕ) → i < length os → new (length bs + i) ≡ old (m - length os + i)) → Near ws new (reverse_aux os bs)
+put_back none u h e = u
+put_back {m} {old = old} {new} {bs = bs} (more p os n t w) u h e =
+    let first : new (length bs) ≡ old (m - 1 - length os) = ap new (omega arith) ∙ e 0 (omega arith) ∙ ap old (omega arith) in
+    put_back w (more p bs n (rw first t) u) (omega arith) (λ i l. ap new (omega arith) ∙ e (i + 1) (omega arith) ∙ ap old (omega arith))
+
+length_back : (os bs : List Group) → length (reverse_aux os bs) ≡ length bs + length os
+length_back [] bs = omega arith
+length_back (o ∷ os) bs = omega (arith, length_back os (o ∷ bs))
 
 module _ {m : ℕ} {ws : List ℕ} {goal : List Group} {rest order : List ℕ} {groups : ℕ → Summary} {cur : Summary} {below from ahead over : ℕ}
     (v : Rest m ws goal rest order groups cur below from ahead over) where
   comes_to : reverse_aux v.os (v.g ∷ v.bs) ≡ goal
   comes_to = ap (reverse_aux v.os) (sym v.settled) ∙ v.state.comes
 
-  pub placed : {new : ℕ → Summary} → Stored groups new below cur → below + over < m → Back m ws goal new (below + 1) over
-  placed e r =
+  pub placed : {mid new : ℕ → Summary} → Stored groups mid below cur → ((i : ℕ) → i < below + 1 → new i ≡ mid i)
+      → ((i : ℕ) → i < over → new (below + 1 + i) ≡ mid (m - over + i)) → below + over < m
+      → (Near ws new goal) × (below + 1 + over ≡ length goal)
+  placed {mid} {new} e low high r =
       let s = v.state in
-      record {
-        bs = v.g ∷ v.bs;
-        os = v.os;
-        under = stack_push e s.under s.low (λ n i z. omega arith) s.current;
-        gone = stack_kept e (λ n i z. omega (arith, s.high)) s.gone;
-        low = omega (arith, s.low);
-        high = s.high;
-        comes = comes_to;
-      }
+      let under : Near ws mid (v.g ∷ v.bs) = stack_push e s.under s.low (λ n i z. omega arith) s.current in
+      let gone : Far m ws mid v.os = stack_kept e (λ n i z. omega (arith, s.high)) s.gone in (
+        rw comes_to at
+            (put_back gone (stack_same (λ n l. low n (omega (arith, s.low))) under) (omega (arith, s.high))
+            (λ i l. ap new (omega (arith, s.low)) ∙ high i (omega (arith, s.high)) ∙ ap mid (omega (arith, s.high)))),
+        omega (arith, length_back v.os (v.g ∷ v.bs), ap length comes_to, s.low, s.high),
+      )
 
   pub placed_lies : brought order from ahead cur.len ≡ flat goal ++ rest
   unfolding flat
@@ -352,35 +354,6 @@ module _ {m : ℕ} {ws : List ℕ} {goal : List Group} {rest order : List ℕ} {
       ∙ sym (append_assoc (flat v.bs) txs (gone ++ rest))
       ∙ sym (append_assoc (flat v.bs ++ txs) gone rest)
       ∙ ap (λ (l : List ℕ). l ++ rest) (sym (flat_back v.os (v.g ∷ v.bs)) ∙ ap flat comes_to)
-
-pub back_turn : {m : ℕ} {ws : List ℕ} {goal : List Group} {groups new : ℕ → Summary} {count over : ℕ}
-    → Back m ws goal groups count over → 0 < over → count + over ≤ m → {prev : Summary}
-    → prev ≡ groups (m - 1 - (over - 1)) → Stored groups new count prev
-    → Back m ws goal new (count + 1) (over - 1)
-back_turn {m} {ws} {goal} {groups} {new} {count} {over} v h r is f = go v.gone v.high v.comes
-  where
-    go : {os : List Group} → Far m ws groups os → over ≡ length os → reverse_aux os v.bs ≡ goal → Back m ws goal new (count + 1) (over - 1)
-    go none e z = absurd (omega arith)
-    go (more p os n t w) e z =
-        let i : over - 1 ≡ length os = omega arith in
-        record {
-          bs = p ∷ v.bs;
-          os = os;
-          under = stack_push f v.under v.low (λ n j x. omega arith) (rw (is, i) t);
-          gone = stack_kept f (λ n j x. omega arith) w;
-          low = omega (arith, v.low);
-          high = i;
-          comes = z;
-        }
-
--- all are back
-pub back_done : {m : ℕ} {ws : List ℕ} {goal : List Group} {groups : ℕ → Summary} {count over : ℕ} → Back m ws goal groups count over → over ≤ 0
-    → (Near ws groups goal) × (count ≡ length goal)
-back_done {m} {ws} {goal} {groups} {count} {over} v h = go v.os (omega (arith, v.high)) v.comes
-  where
-    go : (os : List Group) → length os ≤ 0 → reverse_aux os v.bs ≡ goal → (Near ws groups goal) × (count ≡ length goal)
-    go [] n z = (rw z at v.under, v.low ∙ ap length z)
-    go (o ∷ os) n z = absurd (omega arith)
 
 -- ---- a member, from the head of the loop to its end
 
@@ -500,26 +473,15 @@ module _ {m : ℕ} {rate : ℕ → FeeFrac} {ws order₀ : List ℕ} {groups₀ 
       go (at_bottom e) = rest_empty (v.scan gs rest held) e
       go (at_top p i h e) = rest_top (uncover i (v.scan gs rest held) h) e
 
-  pub inner_placed : {new : ℕ → Summary} → Stored groups new at cur → Back m ws (settle (mem_at ws) (alone rate t) gs) new (at + 1) over
-  inner_placed e = rw (stopped_at stop) (placed inner_rest (rw (stopped_at stop) at e) (omega (arith, v.room.few, v.small)))
+  pub inner_placed : {mid new : ℕ → Summary} → Stored groups mid at cur → ((i : ℕ) → i < at + 1 → new i ≡ mid i)
+      → ((i : ℕ) → i < over → new (at + 1 + i) ≡ mid (m - over + i))
+      → (Near ws new (settle (mem_at ws) (alone rate t) gs)) × (at + 1 + over ≡ length (settle (mem_at ws) (alone rate t) gs))
+  inner_placed {mid} {new} e low high =
+      let is = stopped_at stop in
+      rw is (placed inner_rest (rw is at e) (rw is at low) (rw is at high) (omega (arith, v.room.few, v.small)))
 
   pub inner_lies : brought order from ahead cur.len ≡ flat (settle (mem_at ws) (alone rate t) gs) ++ rest
   inner_lies = placed_lies inner_rest
 
   pub inner_same : length (brought order from ahead cur.len) ≡ length order₀
   inner_same = length_brought from ahead cur.len order ∙ v.same
-
--- at the head of the loop that puts the groups stepped over back: whatever the groups are
-pub record Moved (m : ℕ) (ws : List ℕ) (groups₀ : ℕ → Summary) (count₀ over₀ : ℕ) (groups : ℕ → Summary) (count over : ℕ) : Type 0 where
-  pub room : count + over ≤ m
-  pub back : (goal : List Group) → Back m ws goal groups₀ count₀ over₀ → Back m ws goal groups count over
-
-pub moved_start : {m : ℕ} {ws : List ℕ} {groups : ℕ → Summary} {count over : ℕ} → count + over ≤ m → Moved m ws groups count over groups count over
-moved_start r = record { room = r; back = λ goal b. b }
-
-pub moved_turn : {m : ℕ} {ws : List ℕ} {groups₀ : ℕ → Summary} {count₀ over₀ : ℕ} {groups new : ℕ → Summary} {count over : ℕ}
-    → Moved m ws groups₀ count₀ over₀ groups count over → 0 < over → {prev : Summary}
-    → prev ≡ groups (m - 1 - (over - 1)) → Stored groups new count prev
-    → Moved m ws groups₀ count₀ over₀ new (count + 1) (over - 1)
-moved_turn {count = count} {over = over} v h is e =
-    record { room = omega (arith, v.room); back = λ goal b. back_turn (v.back goal b) h v.room is e }

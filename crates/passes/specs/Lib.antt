@@ -1,4 +1,3 @@
 pub mod Moves
 pub mod Pass
 pub mod Summary
-pub mod Turned

@@ -1,5 +1,5 @@
 -- What the code keeps of a group, and of its way forward: the contracts of the ways to make such a summary. Assumes nothing.
-use Rattle.std.specs.Prelude.{ℕ, ◌+◌, ◌*◌, ◌-◌, ◌≡◌, ◌&&◌, ◌||◌, List, eqb, ℤ, pos, get_or, set}
+use Rattle.std.specs.Prelude.{ℕ, ◌+◌, ◌-◌, ◌≡◌, ◌&&◌, ◌||◌, eqb}
 use Rattle.feefrac.specs.declared.FeeFrac.{FeeFrac}
 use Rattle.feefrac.specs.Rate.{sum}
 use Rattle.txset.specs.declared.TxSet.{TxSet}
@@ -21,19 +21,10 @@ pub record Joined (prev cur g : Group) : Type 0 where
   pub deps : (i : ℕ) → mem g.deps i ≡ (mem cur.deps i || mem prev.deps i)
   pub rate : g.rate ≡ sum cur.rate prev.rate
 
--- the i-th summary of a list of them: four words each, and the fees in a list of their own
-unfoldable pub row_at : List ℕ → List ℤ → ℕ → Group
-row_at ws fs i =
-    record {
-      len = get_or ws (4 * i) 0;
-      set = record { word = get_or ws (4 * i + 1) 0 };
-      deps = record { word = get_or ws (4 * i + 2) 0 };
-      rate = record { fee = get_or fs i (pos 0); size = get_or ws (4 * i + 3) 0 };
-    }
-
--- the words with those of the i-th summary put anew
-unfoldable pub put_row : List ℕ → ℕ → Group → List ℕ
-put_row ws i g = set (set (set (set ws (4 * i) g.len) (4 * i + 1) g.set.word) (4 * i + 2) g.deps.word) (4 * i + 3) g.rate.size
+-- what may be called with any member answers the feerate that is its
+pub record Rated (callable : ℕ → Type 0) (answers : ℕ → FeeFrac → Type 0) (rates : ℕ → FeeFrac) : Type 0 where
+  pub may : (t : ℕ) → callable t
+  pub each : (t : ℕ) (r : FeeFrac) → answers t r → r ≡ rates t
 
 -- a group on top of `count` others, whose members are the first k
 abbrev pub start_on : ℕ → ℕ → Way

@@ -9,9 +9,9 @@ ghost use Rattle.std.specs.Prelude.{◌≡◌};
 ghost use Rattle.txset.specs.Sets.{mem_at};
 ghost use Rattle.passes.specs.Pass.{forward_pass, back_pass, if_fits};
 
-mod moves;
 mod pass;
 
+use feefrac::FeeFrac;
 use txset::POSITIONS;
 
 // From the back, with fees negated and descendants as dependencies. A list longer than a set has positions stays as it is.
@@ -21,9 +21,9 @@ pub fn back_pass(fees: &[i64], sizes: &[u64], descendants: &[u64], order: &mut [
     if POSITIONS < order.len() {
         return;
     }
-    moves::reverse(order);
-    pass::one_pass(fees, sizes, descendants, true, order);
-    moves::reverse(order);
+    order.reverse();
+    pass::one_pass(|t| FeeFrac::at(fees, sizes, t).negate(), descendants, order);
+    order.reverse();
 }
 
 // Forward, with ancestors as dependencies. A list longer than a set has positions stays as it is.
@@ -33,5 +33,5 @@ pub fn forward_pass(fees: &[i64], sizes: &[u64], ancestors: &[u64], order: &mut 
     if POSITIONS < order.len() {
         return;
     }
-    pass::one_pass(fees, sizes, ancestors, false, order);
+    pass::one_pass(|t| FeeFrac::at(fees, sizes, t), ancestors, order);
 }

@@ -1,14 +1,12 @@
-// One pass. The groups stand in lent lists, four words and a fee each, from the start, the last on top; those that the current group
-// stepped over wait at the end, the last one lowest. The two never meet: besides the current group there are fewer of both together
-// than members. The members of all groups stand in the list itself, one group after the other, so that a merge moves nothing
-// and a group that steps forward is one rotation.
-ghost use Rattle.std.specs.Prelude.{◌≡◌, ◌+◌, ◌*◌, ◌≤◌, ◌<◌, length, set};
+// One pass. The groups stand in an array from its start, the last on top; those that the current group stepped over wait at its end, the
+// last one lowest. The two never meet: besides the current group there are fewer of both together than members. The members of all
+// groups stand in the list itself, one group after the other, so that a merge moves nothing and a group that steps forward is one rotation.
+ghost use Rattle.std.specs.Prelude.{◌≡◌, ◌+◌, ◌≤◌, ◌<◌, ℕ, length};
 ghost use Rattle.txset.specs.Sets.{positions, mem_at};
 ghost use Rattle.passes.specs.Pass.{one_pass};
-ghost use Rattle.passes.specs.Turned.{turned};
-ghost use Rattle.passes.specs.Summary.{Single, Joined, row_at, put_row, start_on, merged_on, passed_on};
+ghost use Rattle.passes.specs.Moves.{brought};
+ghost use Rattle.passes.specs.Summary.{Single, Joined, Rated, start_on, merged_on, passed_on};
 
-use crate::moves;
 use feefrac::FeeFrac;
 use txset::{POSITIONS, TxSet};
 
@@ -23,6 +21,14 @@ pub struct Group {
     deps: TxSet,
     rate: FeeFrac,
 }
+
+// The group of no members.
+const NONE: Group = Group {
+    len: 0,
+    set: TxSet { word: 0 },
+    deps: TxSet { word: 0 },
+    rate: FeeFrac { fee: 0, size: 0 },
+};
 
 impl Group {
     fn alone(t: usize, deps: TxSet, rate: FeeFrac) -> Group
@@ -47,37 +53,6 @@ impl Group {
             deps: self.deps.union(prev.deps),
             rate: self.rate.add(prev.rate),
         }
-    }
-
-    // The i-th of a list of groups, of which `words` has four words each and `fees` the fees.
-    fn at(words: &[u64], fees: &[i64], i: usize) -> Group
-        requires { (i < length fees.now) × (length words.now ≡ 4 * length fees.now) }
-        ensures { result ≡ row_at words.now fees.now i }
-    {
-        let w = 4 * i;
-        let fee = fees[i];
-        let size = words[w + 3];
-        Group {
-            len: words[w] as usize,
-            set: TxSet { word: words[w + 1] },
-            deps: TxSet { word: words[w + 2] },
-            rate: FeeFrac { fee, size },
-        }
-    }
-
-    // Writes it as the i-th.
-    fn put(self, words: &mut [u64], fees: &mut [i64], i: usize)
-        requires { (i < length fees.old) × (length words.old ≡ 4 * length fees.old) }
-        ensures words_after { words.new ≡ put_row words.old i self }
-        ensures fees_after { fees.new ≡ set fees.old i self.rate.fee }
-    {
-        let w = 4 * i;
-        let fee = self.rate.fee;
-        words[w] = self.len as u64;
-        words[w + 1] = self.set.word;
-        words[w + 2] = self.deps.word;
-        words[w + 3] = self.rate.size;
-        fees[i] = fee;
     }
 }
 
@@ -131,108 +106,99 @@ impl Way {
             over: self.over + 1,
         }
     }
-}
 
-// A member's feerate, with the fee's sign turned on the way back.
-fn feerate(fees: &[i64], sizes: &[u64], back: bool, t: usize) -> FeeFrac
-    ensures { result ≡ turned back fees.now sizes.now t }
-{
-    let rate = FeeFrac::at(fees, sizes, t);
-    if back {
-        return rate.negate();
+    // The members ahead go behind the group's own, of which there are so many.
+    fn bring(self, order: &mut [usize], len: usize)
+        requires { self.from + (self.ahead + len) ≤ length order.old }
+        ensures { order.new ≡ brought order.old self.from self.ahead len }
+    {
+        if 0 < self.ahead {
+            rotate(order, self.from, self.ahead, len);
+        }
     }
-    rate
 }
 
-// The pass over a list of up to as many members as a set has positions.
-pub fn one_pass(fees: &[i64], sizes: &[u64], deps: &[u64], back: bool, order: &mut [usize])
-    requires { length order.old ≤ positions }
-    ensures { order.new
-        ≡ one_pass (turned back fees.now sizes.now) (mem_at deps.now) order.old }
+// Of the `ahead + len` members from `from` on, the first `ahead` go behind the others. Out of line, so that a group which has nobody
+// ahead, as most have, costs one test.
+#[inline(never)]
+fn rotate(order: &mut [usize], from: usize, ahead: usize, len: usize)
+    requires { from + (ahead + len) ≤ length order.old }
+    ensures { order.new ≡ brought order.old from ahead len }
+{
+    let end = from + (ahead + len);
+    order[from..end].rotate_left(ahead);
+}
+
+// The pass over a list of up to as many members as a set has positions, whose feerates `rate` gives.
+pub fn one_pass<F: Fn(usize) -> FeeFrac>(rate: F, deps: &[u64], order: &mut [usize])
+    ghost rates: { ℕ → FeeFrac }
+    requires rated { Rated (F.pre rate) (F.post rate) rates }
+    requires few { length order.old ≤ positions }
+    ensures { order.new ≡ one_pass rates (mem_at deps.now) order.old }
 {
     if order.len() <= FEW {
-        of_few(fees, sizes, deps, back, order);
-        return;
+        in_array::<FEW, F>(rate, deps, order);
+    } else {
+        in_array::<POSITIONS, F>(rate, deps, order);
     }
-    of_many(fees, sizes, deps, back, order);
 }
 
-// The same, with arrays for few groups.
-fn of_few(fees: &[i64], sizes: &[u64], deps: &[u64], back: bool, order: &mut [usize])
-    requires { length order.old ≤ 8 }
-    ensures { order.new
-        ≡ one_pass (turned back fees.now sizes.now) (mem_at deps.now) order.old }
+// The same with an array for N groups.
+fn in_array<const N: usize, F: Fn(usize) -> FeeFrac>(rate: F, deps: &[u64], order: &mut [usize])
+    ghost rates: { ℕ → FeeFrac }
+    requires rated { Rated (F.pre rate) (F.post rate) rates }
+    requires few { length order.old ≤ N }
+    requires small { N ≤ positions }
+    ensures { order.new ≡ one_pass rates (mem_at deps.now) order.old }
 {
-    let mut words = [0u64; FEW * 4];
-    let mut sums = [0i64; FEW];
-    settle_all(fees, sizes, deps, back, &mut words, &mut sums, order);
-}
-
-// The same, with arrays for as many groups as there can be.
-fn of_many(fees: &[i64], sizes: &[u64], deps: &[u64], back: bool, order: &mut [usize])
-    requires { length order.old ≤ positions }
-    ensures { order.new
-        ≡ one_pass (turned back fees.now sizes.now) (mem_at deps.now) order.old }
-{
-    let mut words = [0u64; POSITIONS * 4];
-    let mut sums = [0i64; POSITIONS];
-    settle_all(fees, sizes, deps, back, &mut words, &mut sums, order);
+    let mut groups = [NONE; N];
+    settle_all(rate, deps, &mut groups, order);
 }
 
 // Works the members of the list into groups, one after the other, and leaves the groups' members in the list.
-fn settle_all(
-    fees: &[i64],
-    sizes: &[u64],
+fn settle_all<F: Fn(usize) -> FeeFrac>(
+    rate: F,
     deps: &[u64],
-    back: bool,
-    words: &mut [u64],
-    sums: &mut [i64],
+    groups: &mut [Group],
     order: &mut [usize],
 )
-    requires order_in_bounds { (length order.old ≤ length sums.old) × (length sums.old ≤ positions) }
-    requires words_len { length words.old ≡ 4 * length sums.old }
-    ensures { order.new
-        ≡ one_pass (turned back fees.now sizes.now) (mem_at deps.now) order.old }
+    ghost rates: { ℕ → FeeFrac }
+    requires rated { Rated (F.pre rate) (F.post rate) rates }
+    requires few { length order.old ≤ length groups.old }
+    requires small { length groups.old ≤ positions }
+    ensures { order.new ≡ one_pass rates (mem_at deps.now) order.old }
 {
-    let n = order.len();
-    let places = sums.len();
+    let places = groups.len();
     let mut count: usize = 0;
-    let mut k: usize = 0;
-    // The first k members stand in the list group by group, and the lists have the `count` groups.
-    while k < n {
+    // The first k members stand in the list group by group, and the array has the `count` groups.
+    for k in 0..order.len() {
         let t = order[k];
-        let mut cur = Group::alone(t, TxSet::at(deps, t), feerate(fees, sizes, back, t));
+        let mut cur = Group::alone(t, TxSet::at(deps, t), rate(t));
         let mut way = Way::start(count, k);
         // The scan yields the place where the group comes to rest.
+        // stays: document 01 names this form, a loop that breaks with the place.
         let at = loop {
             let below = way.below;
             if below == 0 {
                 break 0;
             }
-            let prev = Group::at(words, sums, below - 1);
+            let prev = groups[below - 1];
             if !cur.rate.higher_rate(prev.rate) {
                 break below;
             }
             if cur.deps.overlaps(prev.set) {
-                moves::bring(order, way.from, way.ahead, cur.len);
+                way.bring(order, cur.len);
                 way = way.merged(prev.len);
                 cur = cur.absorb_before(prev);
             } else {
-                prev.put(words, sums, places - 1 - way.over);
+                groups[places - 1 - way.over] = prev;
                 way = way.passed(prev.len);
             }
         };
-        moves::bring(order, way.from, way.ahead, cur.len);
-        cur.put(words, sums, at);
-        count = at + 1;
+        way.bring(order, cur.len);
+        groups[at] = cur;
         // Those that it passed go back on top, the last one first.
-        let mut over = way.over;
-        while 0 < over {
-            over -= 1;
-            let prev = Group::at(words, sums, places - 1 - over);
-            prev.put(words, sums, count);
-            count += 1;
-        }
-        k += 1;
+        groups.copy_within(places - way.over..places, at + 1);
+        count = at + 1 + way.over;
     }
 }

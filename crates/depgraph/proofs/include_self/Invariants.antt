@@ -1,9 +1,5 @@
-use Prim.Native.Nat.{◌≤◌, ◌-◌}
 use Rattle.depgraph.proofs.Closure.{Including}
 use Rattle.depgraph.proofs.include_self.Given as goal
 
 abbrev pub invariant-loop-i : goal.invariant-loop-i
-invariant-loop-i l = (l.i ≤ l.n) × Including l.initial.ancestors l.initial.descendants l.ancestors l.descendants l.cyclic l.i
-
-abbrev pub decreases-loop-i : goal.decreases-loop-i
-decreases-loop-i l = l.n - l.i
+invariant-loop-i l = Including l.initial.ancestors l.initial.descendants l.ancestors l.descendants l.cyclic l.i

@@ -1,9 +1,5 @@
-use Rattle.txset.specs.Sets.{size}
 use Rattle.depgraph.proofs.Closure.{Joins}
 use Rattle.depgraph.proofs.join.Given as goal
 
-abbrev pub invariant-loop-set : goal.invariant-loop-set
-invariant-loop-set l = Joins l.initial.rest l.set l.initial.sets l.sets l.rest
-
-abbrev pub decreases-loop-set : goal.decreases-loop-set
-decreases-loop-set l = size l.rest
+abbrev pub invariant-loop-i : goal.invariant-loop-i
+invariant-loop-i l = Joins l.fn.walk l.set l.initial.sets l.sets l.i-iterator.rest

@@ -3,7 +3,6 @@ use Prim.Native.Nat.{ℕ}
 use native.Mathlib.Omega.{arith}
 use lib.ListN.{take}
 use lib.Seq.{length-take-le}
-use borrow.Author.Rules.{rules}
 use Rattle.txset.specs.Sets.{mem}
 use Rattle.depgraph.specs.Graph.{is_parent}
 use Rattle.depgraph.specs.Steps.{Within}
@@ -12,7 +11,7 @@ use Rattle.depgraph.proofs.link.Goals as goal
 use Rattle.depgraph.proofs.link.Goals.{After-remove-own}
 
 pub loop-i-init : goal.loop-i-init
-loop-i-init c = (search rules, link_start _ c.requires.holds)
+loop-i-init c = link_start _ c.requires.holds
 
 -- what is entered for a member: its parents
 module _ (own : After-remove-own) where
@@ -36,7 +35,7 @@ module _ (own : After-remove-own) where
   within : Within own.remove-own.result own.loop-i.descendants
   within =
       parents_within _ _ _ own.remove-own.result own.requires.n_in_bounds
-      (omega (arith, own.loop-i.invariant.1.downs, own.requires.room.downs))
+      (omega (arith, own.loop-i.invariant.downs, own.requires.room.downs))
       entered
 
 pub join-requires : goal.join-requires
@@ -44,31 +43,29 @@ join-requires c = within (goal.at.join-requires c).After-remove-own
 
 pub loop-i-preserved : goal.loop-i-preserved
 loop-i-preserved c =
-    let own = (goal.at.loop-i-preserved c).After-remove-own in (
-      search rules,
-      link_turn
-          (is_parent (take c.args.n c.args.parents.now))
-          c.loop-i.i
-          c.remove-own.result
-          c.singleton.result
-          c.loop-i-test.true
-          c.requires.room
-          (within own)
-          (entered own)
-          c.singleton.ensures
-          c.put.ensures
-          c.join.ensures
-          c.loop-i.invariant.1,
-    )
+    let own = (goal.at.loop-i-preserved c).After-remove-own in
+    link_turn
+    (is_parent (take c.args.n c.args.parents.now))
+    c.loop-i.i
+    c.remove-own.result
+    c.singleton.result
+    c.loop-i-test.true
+    c.requires.room
+    (within own)
+    (entered own)
+    c.singleton.ensures
+    c.put.ensures
+    c.join.ensures
+    c.loop-i.invariant
 
 pub returns : goal.returns
 returns c =
     let parents = c.args.parents.now in
     let n = c.args.n in
-    link_done (take n parents) (length-take-le n parents c.requires.n_in_bounds ∙ omega arith) c.loop-i.invariant.1
+    link_done (take n parents) (length-take-le n parents c.requires.n_in_bounds ∙ omega arith) c.loop-i.invariant
 
 pub shape_of-ancestors : goal.shape_of-ancestors
-shape_of-ancestors c = c.loop-i.invariant.1.ups
+shape_of-ancestors c = c.loop-i.invariant.ups
 
 pub shape_of-descendants : goal.shape_of-descendants
-shape_of-descendants c = c.loop-i.invariant.1.downs
+shape_of-descendants c = c.loop-i.invariant.downs

@@ -1,11 +1,7 @@
-use Prim.Native.Nat.{◌≤◌, ◌-◌}
 use lib.ListN.{take}
 use Rattle.depgraph.specs.Graph.{is_parent}
 use Rattle.depgraph.proofs.Closure.{Linking}
 use Rattle.depgraph.proofs.link.Given as goal
 
 abbrev pub invariant-loop-i : goal.invariant-loop-i
-invariant-loop-i l = (l.i ≤ l.n) × Linking (is_parent (take l.n l.parents)) l.initial.ancestors l.initial.descendants l.ancestors l.descendants l.i
-
-abbrev pub decreases-loop-i : goal.decreases-loop-i
-decreases-loop-i l = l.n - l.i
+invariant-loop-i l = Linking (is_parent (take l.n l.parents)) l.initial.ancestors l.initial.descendants l.ancestors l.descendants l.i

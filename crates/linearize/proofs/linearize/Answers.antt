@@ -8,7 +8,7 @@ use lib.ListN.{length}
 use borrow.Author.Tests.{lt-ltb, le-ltb}
 use Rattle.txset.specs.Sets.{positions}
 use Rattle.refusals.specs.Refusals.{any_outside, success}
-use Rattle.refusals.proofs.Laws.{outside_some, outside_none}
+use Rattle.refusals.proofs.Laws.{outside_found}
 use Rattle.refusals.proofs.Lines.{Past, Takes, none_past, past, stop, all_past, refuses_keeps, succeeds_writes}
 use Rattle.post_linearize.proofs.Checks.{sizes_differ, parents_differ, all_alike, others}
 use Rattle.linearize.specs.Linearize.{refusals, reply, room_after}
@@ -44,13 +44,13 @@ module _ (fs : List ℤ) (ss ps room : List ℕ) (s : length ss ≡ length fs) (
 pub returns-then-sizes-n : goal.returns-then-sizes-n
 unfolding reply room_after refusals
 returns-then-sizes-n c =
-    let h = refuses_keeps _ _ _ _ (stop (none_past refl) (sizes_differ _ _ _ c.if-sizes-n.true)) c.refused.ensures in
+    let h = refuses_keeps _ _ _ _ (stop (none_past refl) (sizes_differ _ _ _ c.if-sizes-n.true)) refl in
     record { value = h.0; room_after = h.1 }
 
 pub returns-then-parents-n : goal.returns-then-parents-n
 unfolding reply room_after refusals
 returns-then-parents-n c =
-    let h = refuses_keeps _ _ _ _ (stop (none_past refl) (parents_differ _ _ _ c.if-parents-n.true)) c.refused-then-parents-n.ensures in
+    let h = refuses_keeps _ _ _ _ (stop (none_past refl) (parents_differ _ _ _ c.if-parents-n.true)) refl in
     record { value = h.0; room_after = h.1 }
 
 pub returns-then-n-gt-POSITIONS : goal.returns-then-n-gt-POSITIONS
@@ -59,7 +59,7 @@ returns-then-n-gt-POSITIONS c = let a = c.args in
     let h =
     refuses_keeps _ _ _ _
     (stop (past_1 a.fees.now a.sizes.now a.parents.now a.room.now c.if-sizes-n.false c.if-parents-n.false) (lt-ltb positions _ c.if-n-gt-POSITIONS.true))
-    c.refused-then-n-gt-POSITIONS.ensures in
+    refl in
     record { value = h.0; room_after = h.1 }
 
 pub returns-then-room-n : goal.returns-then-room-n
@@ -68,40 +68,40 @@ returns-then-room-n c = let a = c.args in
     let h =
     refuses_keeps _ _ _ _
     (stop (past_2 a.fees.now a.sizes.now a.parents.now a.room.now c.if-sizes-n.false c.if-parents-n.false c.if-n-gt-POSITIONS.false) (lt-ltb _ _ c.if-room-n.true))
-    c.refused-then-room-n.ensures in
+    refl in
     record { value = h.0; room_after = h.1 }
 
-pub returns-then-first_outside-n : goal.returns-then-first_outside-n
+pub returns-then-is_some : goal.returns-then-is_some
 unfolding reply room_after refusals
-returns-then-first_outside-n c = let a = c.args in
+returns-then-is_some c = let a = c.args in
     let h =
     refuses_keeps _ _ _ _
     (stop (past_3 a.fees.now a.sizes.now a.parents.now a.room.now c.if-sizes-n.false c.if-parents-n.false c.if-n-gt-POSITIONS.false c.if-room-n.false)
-    (outside_some _ (omega (arith, c.if-first_outside-n.true, c.first_outside.ensures))))
-    c.refused-then-first_outside-n.ensures in
+    (outside_found _ c.first_outside.ensures ∙ sym c.is_some.ensures ∙ c.if-is_some.true))
+    refl in
     record { value = h.0; room_after = h.1 }
 
 pub returns-then-n-eq0 : goal.returns-then-n-eq0
 unfolding reply room_after
 returns-then-n-eq0 c = let a = c.args in
-    let in-range = outside_none a.fees.now (omega (arith, c.first_outside.ensures, c.if-first_outside-n.false)) in
+    let in-range = outside_found a.fees.now c.first_outside.ensures ∙ sym c.is_some.ensures ∙ c.if-is_some.false in
     let o = none_order a.fees.now a.sizes.now a.parents.now c.if-parents-n.false c.if-n-eq0.true in
     let h =
     succeeds_writes _ _ _ _
     (takes a.fees.now a.sizes.now a.parents.now a.room.now c.if-sizes-n.false c.if-parents-n.false c.if-n-gt-POSITIONS.false c.if-room-n.false in-range (omega (arith, c.if-n-eq0.true)))
-    (c.wrote.ensures ∙ ap (λ (l : List ℕ). success (length l)) (sym o))
+    (ap (λ (l : List ℕ). success (length l)) (sym o))
     (none_room _ _ o) in
     record { value = h.0; room_after = h.1 }
 
 pub returns-then-n-eq1 : goal.returns-then-n-eq1
 unfolding reply room_after
 returns-then-n-eq1 c = let a = c.args in
-    let in-range = outside_none a.fees.now (omega (arith, c.first_outside.ensures, c.if-first_outside-n.false)) in
+    let in-range = outside_found a.fees.now c.first_outside.ensures ∙ sym c.is_some.ensures ∙ c.if-is_some.false in
     let o = alone_order a.fees.now a.sizes.now a.parents.now c.if-parents-n.false c.if-n-eq1.true in
     let h =
     succeeds_writes _ _ _ _
     (takes a.fees.now a.sizes.now a.parents.now a.room.now c.if-sizes-n.false c.if-parents-n.false c.if-n-gt-POSITIONS.false c.if-room-n.false in-range (omega (arith, c.if-n-eq1.true)))
-    (c.wrote-then-n-eq1.ensures ∙ ap (λ (l : List ℕ). success (length l)) (sym o))
+    (ap (λ (l : List ℕ). success (length l)) (sym o))
     (alone_room _ _ o (omega (arith, c.if-room-n.false, c.if-n-eq1.true))) in
     record { value = h.0; room_after = h.1 }
 
@@ -111,6 +111,6 @@ order_cluster-requires c = record { same = c.if-parents-n.false; few = c.if-n-gt
 pub returns : goal.returns
 unfolding reply room_after refusals
 returns c = let a = c.args in
-    let in-range = outside_none a.fees.now (omega (arith, c.first_outside.ensures, c.if-first_outside-n.false)) in
+    let in-range = outside_found a.fees.now c.first_outside.ensures ∙ sym c.is_some.ensures ∙ c.if-is_some.false in
     let h = others (past_4 a.fees.now a.sizes.now a.parents.now a.room.now c.if-sizes-n.false c.if-parents-n.false c.if-n-gt-POSITIONS.false c.if-room-n.false in-range) _ _ _ _ c.order_cluster.ensures.value c.order_cluster.ensures.room_after in
     record { value = h.0; room_after = h.1 }

@@ -1,9 +1,9 @@
-use Prim.Native.Nat.{◌-◌}
+use Rattle.txset.specs.Sets.{size}
 use Rattle.output_order.proofs.Rounds.{Rounds}
 use Rattle.output_order.proofs.output_order.Given as goal
 
-abbrev pub invariant-loop-round : goal.invariant-loop-round
-invariant-loop-round l = Rounds l.fees l.sizes l.ancestors l.order l.initial.room l.all l.sets l.outsides l.tops l.sum_fees l.sum_sizes l.count l.drops l.room l.left l.out.done l.out.len l.round
+abbrev pub invariant-loop-k : goal.invariant-loop-k
+invariant-loop-k l = Rounds l.fees l.sizes l.ancestors l.order l.initial.room l.cluster.all l.pieces l.count l.drops l.room l.left l.out.done l.out.len
 
-abbrev pub decreases-loop-round : goal.decreases-loop-round
-decreases-loop-round l = l.count - l.round
+abbrev pub decreases-loop-k : goal.decreases-loop-k
+decreases-loop-k l = size l.left

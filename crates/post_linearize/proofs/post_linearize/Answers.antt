@@ -1,16 +1,16 @@
-use native.Mathlib.Omega.{arith}
 use Prim.Native.Nat.{ℕ, ◌≤◌}
-use mathlib.Core.Path.{◌≡◌, refl}
+use mathlib.Core.Path.{◌≡◌, refl, sym, ◌∙◌}
 use lib.ListN.{length}
 use lib.IntN.{ℤ}
 use mathlib.Core.List.{List}
+use mathlib.Core.Bool.{false}
 use borrow.Author.Tests.{lt-ltb, le-ltb}
 use Rattle.txset.specs.Sets.{positions}
-use Rattle.refusals.specs.Refusals.{first_outside}
-use Rattle.refusals.proofs.Laws.{outside_some, outside_none}
+use Rattle.refusals.specs.Refusals.{any_outside}
+use Rattle.refusals.proofs.Laws.{outside_found}
 use Rattle.refusals.proofs.Lines.{Past, none_past, past, stop, refuses, keeps}
 use Rattle.post_linearize.specs.PostLinearize.{refusals, reply, order_after}
-use Rattle.post_linearize.proofs.Checks.{sizes_differ, parents_differ, all_alike, others, new_room}
+use Rattle.post_linearize.proofs.Checks.{sizes_differ, parents_differ, all_alike, others}
 use Rattle.post_linearize.proofs.post_linearize.Goals as goal
 
 -- the tests that were passed
@@ -29,63 +29,49 @@ module _ (fs : List ℤ) (ss ps order : List ℕ) where
       unfolding refusals
       past_2 = past past_1 (le-ltb positions _ few)
 
-      past_3 : length fs ≤ first_outside fs → Past (refusals fs ss ps order) 3
+      past_3 : any_outside fs ≡ false → Past (refusals fs ss ps order) 3
       unfolding refusals
-      past_3 inside = past past_2 (outside_none _ inside)
+      past_3 = past past_2
 
 pub returns-then-sizes-n : goal.returns-then-sizes-n
 unfolding reply order_after refusals
 returns-then-sizes-n c =
     let a = c.args in
     let gives = stop (past_0 a.fees.now a.sizes.now a.parents.now a.order.now) (sizes_differ _ _ _ c.if-sizes-n.true) in
-    record { value = refuses _ _ gives c.refused.ensures; order_after = keeps _ _ gives }
+    record { value = refuses _ _ gives refl; order_after = keeps _ _ gives }
 
 pub returns-then-parents-n : goal.returns-then-parents-n
 unfolding reply order_after refusals
 returns-then-parents-n c =
     let a = c.args in
     let gives = stop (past_0 a.fees.now a.sizes.now a.parents.now a.order.now) (parents_differ _ _ _ c.if-parents-n.true) in
-    record { value = refuses _ _ gives c.refused-then-parents-n.ensures; order_after = keeps _ _ gives }
+    record { value = refuses _ _ gives refl; order_after = keeps _ _ gives }
 
 pub returns-then-n-gt-POSITIONS : goal.returns-then-n-gt-POSITIONS
 unfolding reply order_after refusals
 returns-then-n-gt-POSITIONS c =
     let gives = stop (past_1 _ _ _ _ c.if-sizes-n.false c.if-parents-n.false) (lt-ltb positions _ c.if-n-gt-POSITIONS.true) in
-    record { value = refuses _ _ gives c.refused-then-n-gt-POSITIONS.ensures; order_after = keeps _ _ gives }
+    record { value = refuses _ _ gives refl; order_after = keeps _ _ gives }
 
-pub returns-then-first_outside-n : goal.returns-then-first_outside-n
+pub returns-then-is_some : goal.returns-then-is_some
 unfolding reply order_after refusals
-returns-then-first_outside-n c =
-    let outside = outside_some _ (omega (arith, c.first_outside.ensures)) in
+returns-then-is_some c =
+    let outside = outside_found _ c.first_outside.ensures ∙ sym c.is_some.ensures ∙ c.if-is_some.true in
     let gives = stop (past_2 _ _ _ _ c.if-sizes-n.false c.if-parents-n.false c.if-n-gt-POSITIONS.false) outside in
-    record { value = refuses _ _ gives c.refused-then-first_outside-n.ensures; order_after = keeps _ _ gives }
-
-pub improve-requires : goal.improve-requires
-improve-requires c =
-    let same = c.if-parents-n.false in record {
-      parents_len = same;
-      room = new_room 8 (omega (arith, same, c.if-n-le-FEW.true)) (omega (arith, same, c.if-n-le-FEW.true));
-    }
-
-pub improve-requires-2 : goal.improve-requires-2
-improve-requires-2 c =
-    let same = c.if-parents-n.false in record {
-      parents_len = same;
-      room = new_room 64 (omega (arith, same, c.if-n-gt-POSITIONS.false)) (omega (arith, same, c.if-n-gt-POSITIONS.false));
-    }
+    record { value = refuses _ _ gives refl; order_after = keeps _ _ gives }
 
 pub returns-then-n-le-FEW : goal.returns-then-n-le-FEW
 unfolding reply order_after refusals
 returns-then-n-le-FEW c =
-    let inside : length c.args.fees.now ≤ first_outside c.args.fees.now = omega (arith, c.first_outside.ensures, c.if-first_outside-n.false) in
+    let inside = outside_found _ c.first_outside.ensures ∙ sym c.is_some.ensures ∙ c.if-is_some.false in
     let past = past_3 _ _ _ _ c.if-sizes-n.false c.if-parents-n.false c.if-n-gt-POSITIONS.false inside in
-    let both = others past _ _ _ _ c.improve.ensures.value c.improve.ensures.order_after in
+    let both = others past _ _ _ _ c.in_tables.ensures.value c.in_tables.ensures.order_after in
     record { value = both.0; order_after = both.1 }
 
 pub returns : goal.returns
 unfolding reply order_after refusals
 returns c =
-    let inside : length c.args.fees.now ≤ first_outside c.args.fees.now = omega (arith, c.first_outside.ensures, c.if-first_outside-n.false) in
+    let inside = outside_found _ c.first_outside.ensures ∙ sym c.is_some.ensures ∙ c.if-is_some.false in
     let past = past_3 _ _ _ _ c.if-sizes-n.false c.if-parents-n.false c.if-n-gt-POSITIONS.false inside in
-    let both = others past _ _ _ _ c.improve-2.ensures.value c.improve-2.ensures.order_after in
+    let both = others past _ _ _ _ c.in_tables-2.ensures.value c.in_tables-2.ensures.order_after in
     record { value = both.0; order_after = both.1 }
