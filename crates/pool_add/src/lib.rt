@@ -8,11 +8,11 @@ ghost use Rattle.txset.specs.Sets.{has_in};
 ghost use Rattle.pool_table.specs.Pool.{slot_count};
 ghost use Rattle.pool_table.specs.Words.{pool_of};
 ghost use Rattle.pool_table.specs.Changes.{Becomes};
-ghost use Rattle.pool_rules.specs.Calls.{entry_of, add_reply, after_add};
+ghost use Rattle.pool_rules.specs.Calls.{placed_from, entry_of, add_reply, after_add};
 ghost use Rattle.pool_add.specs.Steps.{linked_to, put_in};
 
-use pool_rules::{Found, Placed};
 use pool_table::{Entry, Limits, Side};
+use refusals::Refusal;
 use txids::Txid;
 use weights::RawWeight;
 
@@ -24,17 +24,17 @@ pub fn add(
     weight: u64,
     cost: u64,
     parents: &[u8],
-) -> Placed
-    ensures value { result ≡ add_reply table.old (entry_of txid fee weight cost) parents.now }
+) -> Result<usize, Refusal>
+    ensures value { placed_from result ≡ add_reply table.old (entry_of txid fee weight cost) parents.now }
     ensures table_after { table.new ≡ after_add table.old (entry_of txid fee weight cost) parents.now }
 {
     if !pool_check::is_well_formed(table) {
-        return Placed::refused(refusals::TABLE_ILL_FORMED);
+        return Err(Refusal::TableIllFormed);
     }
     if parents.len() % 32 != 0 {
-        return Placed::refused(refusals::LENGTHS_DIFFER);
+        return Err(Refusal::LengthsDiffer);
     }
-    let id = Txid::of(txid);
+    let id = Txid::from(txid);
     let entry = Entry {
         txid: id,
         fee,
@@ -42,27 +42,24 @@ pub fn add(
         cost,
     };
     if !entry.in_range() {
-        return Placed::refused(refusals::OUT_OF_RANGE);
+        return Err(Refusal::OutOfRange);
     }
-    if let Found::At(_) = pool_rules::find(table, id) {
-        return Placed::refused(refusals::TXID_PRESENT);
+    if pool_rules::find(table, id).is_some() {
+        return Err(Refusal::TxidPresent);
     }
-    let slot = pool_rules::lowest_free(table);
-    if pool_table::slots(table) <= slot {
-        return Placed::refused(refusals::NO_SLOT_FREE);
-    }
+    let slot = pool_rules::lowest_free(table).ok_or(Refusal::NoSlotFree)?;
     let linked = pool_rules::listed_slots(table, id, parents);
     let union = pool_clusters::clusters_of(table, &linked);
     let limits = Limits::of(table);
     if limits.count <= union.count as u64 {
-        return Placed::refused(refusals::CLUSTER_TOO_MANY);
+        return Err(Refusal::ClusterTooMany);
     }
     let together = RawWeight(union.weight.0 + weight);
     if limits.size < together.virtual_size() {
-        return Placed::refused(refusals::CLUSTER_TOO_LARGE);
+        return Err(Refusal::ClusterTooLarge);
     }
     put_in(table, slot, entry, &linked);
-    Placed::at(slot)
+    Ok(slot)
 }
 
 // Writes an entry into a slot and links it with its parents.
@@ -80,13 +77,11 @@ fn put_in(table: &mut [u64], slot: usize, entry: Entry, parents: &[u64])
 fn link_parents(table: &mut [u64], slot: usize, parents: &[u64])
     ensures { Becomes (λ p. linked_to (has_in parents.now) slot (slot_count p) p) table.old table.new }
 {
-    let n = pool_table::slots(table);
-    let mut s: usize = 0;
-    while s < n {
+    // Those of the parents below s are linked.
+    for s in 0..pool_table::slots(table) {
         if slotsets::contains(parents, s) {
             pool_table::link(table, Side::Parents, slot, s);
             pool_table::link(table, Side::Children, s, slot);
         }
-        s += 1;
     }
 }

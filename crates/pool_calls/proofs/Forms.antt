@@ -1,24 +1,28 @@
 -- What a well-formed table gives the calls, and what the look-up tells. Assumes nothing.
-use mathlib.Core.Path.{◌≡◌, refl, sym, ap}
+use mathlib.Core.Path.{◌≡◌, refl, sym, ap, ◌∙◌}
 use mathlib.Core.Bool.{Bool, true, false, cond, not}
 use mathlib.Core.Logic.{⊎_elim}
 use mathlib.Core.List.{List, [], ◌∷◌}
 use Prim.Native.Nat.{ℕ, zero, suc, ◌+◌, ◌<◌, ◌≤◌}
 use native.Mathlib.Nat.{eq-or-lt_of_le}
 use native.Mathlib.Omega.{arith}
-use borrow.Author.Tests.{eqb-true}
+use lib.Dec.{eqb}
+use borrow.Author.Tests.{eqb-true, ne_eqb}
 use Rattle.lists.proofs.Below.{first_below}
-use Rattle.lists.proofs.Bools.{clash}
+use Rattle.lists.proofs.Bools.{cases}
 use Rattle.txids.specs.declared.Txid.{Txid}
-use Rattle.pool_table.specs.Pool.{Pool, slot_count, weight_at}
-use Rattle.refusals.proofs.Lines.{Gives, Takes, none_past, past, stop, all_past, keeps, writes}
+use Rattle.pool_table.specs.Pool.{slot_count, weight_at}
+use Rattle.refusals.specs.declared.Refusal.{Refusal}
+use Rattle.refusals.specs.Refusals.{number_of, answer_of, reply_of, kept_unless}
+use Rattle.refusals.proofs.Lines.{Gives, Takes, none_past, past, stop, all_past, keeps, writes, answered}
+use Rattle.refusals.proofs.Outcomes.{no_success}
 use Rattle.pool_table.specs.Words.{pool_of, table_of}
 use Rattle.pool_table.specs.Links.{sum_from, weight_of}
 use Rattle.pool_table.specs.WellFormed.{total_is_sum, well_formed}
 use Rattle.pool_rules.proofs.Sound.{well_legal, well_sound}
 use Rattle.pool_rules.specs.declared.Placed.{Placed}
 use Rattle.pool_rules.specs.Module8.{is_in, slot_of, cleared}
-use Rattle.pool_rules.specs.Calls.{placed, no_slot, broken, clear_answer, after_clear}
+use Rattle.pool_rules.specs.Calls.{placed, no_slot, broken, named_refusals, named_reply, clear_answer, after_clear}
 use Rattle.pool_calls.specs.Steps.{Takable}
 
 -- ---- a well-formed table
@@ -42,33 +46,45 @@ takable t s h l =
       within = omega (arith, in_sum (weight_at p) (slot_count p) 0 s (omega arith) (omega arith), eqb-true p.total _ (well_sound t h).total);
     }
 
--- ---- the look-up
+-- ---- what an answer of the look-up tells
 
-found_in : (b : Bool) (s k : ℕ) → placed s ≡ cond b (placed k) (no_slot 10) → b ≡ true
-found_in true s k e = refl
-found_in false s k e = absurd (omega (arith, ap (λ (r : Placed). r.answer) e))
+both_hold : (a b : Bool) → ◌≡◌ {A = ℕ} (cond (not a) 12 (cond (not b) 10 0)) 0 → (a ≡ true) × (b ≡ true)
+both_hold true true e = (refl, refl)
+both_hold true false e = absurd (omega arith)
+both_hold false b e = absurd (omega arith)
 
-found_slot : (b : Bool) (s k : ℕ) → b ≡ true → placed s ≡ cond b (placed k) (no_slot 10) → s ≡ k
-found_slot true s k h e = ap (λ (r : Placed). r.slot) e
-found_slot false s k h e = clash h refl
+module _ (t : List ℕ) (x : Txid) where
+  told : (named_reply t x).answer ≡ answer_of (named_refusals t x)
+  unfolding named_reply
+  told = answered (named_refusals t x) no_slot (placed (slot_of (pool_of t) x)) (λ r. r.answer) refl (λ k. refl)
 
-found_none : (b : Bool) (k : ℕ) → no_slot 10 ≡ cond b (placed k) (no_slot 10) → b ≡ false
-found_none false k e = refl
-found_none true k e = absurd (omega (arith, ap (λ (r : Placed). r.answer) e))
+  module _ (s : ℕ) (e : placed s ≡ named_reply t x) where
+    none_holds : answer_of (named_refusals t x) ≡ 0
+    none_holds = sym told ∙ sym (ap (λ (r : Placed). r.answer) e)
 
-module _ (p : Pool) (x : Txid) where
-  pub is_in_lem : (s : ℕ) → placed s ≡ cond (is_in p x) (placed (slot_of p x)) (no_slot 10) → is_in p x ≡ true
-  is_in_lem s e = found_in (is_in p x) s (slot_of p x) e
+    stand : (well_formed t ≡ true) × (is_in (pool_of t) x ≡ true)
+    unfolding named_refusals answer_of
+    stand = both_hold (well_formed t) (is_in (pool_of t) x) none_holds
 
-  pub is_slot : (s : ℕ) → placed s ≡ cond (is_in p x) (placed (slot_of p x)) (no_slot 10) → s ≡ slot_of p x
-  is_slot s e = found_slot (is_in p x) s (slot_of p x) (is_in_lem s e) e
+    -- a slot: the table is well-formed, and it is the one where the txid stands
+    pub named_well : well_formed t ≡ true
+    named_well = stand.0
 
-  pub is_absent : no_slot 10 ≡ cond (is_in p x) (placed (slot_of p x)) (no_slot 10) → is_in p x ≡ false
-  is_absent e = found_none (is_in p x) (slot_of p x) e
+    pub named_slot : s ≡ slot_of (pool_of t) x
+    unfolding named_reply reply_of
+    named_slot = let same : placed s ≡ placed (slot_of (pool_of t) x) = rw none_holds at e in ap (λ (r : Placed). r.slot) same
 
-  pub slot_below : is_in p x ≡ true → slot_of p x < slot_count p
-  unfolding is_in slot_of
-  slot_below e = omega (arith, first_below _ (slot_count p) 0 e)
+    pub named_below : s < slot_count (pool_of t)
+    unfolding is_in slot_of
+    named_below = omega (arith, named_slot, first_below _ (slot_count (pool_of t)) 0 stand.1)
+
+    pub named_writes : (new u : List ℕ) → u ≡ new → u ≡ kept_unless (named_refusals t x) t new
+    named_writes new u h = writes t new (record { answer = none_holds }) h
+
+  -- a refusal: all stays
+  pub named_keeps : (r : Refusal) (new : List ℕ) → no_slot (number_of r) ≡ named_reply t x → t ≡ kept_unless (named_refusals t x) t new
+  named_keeps r new e =
+      keeps t new (record { answer = sym told ∙ sym (ap (λ (r : Placed). r.answer) e); number = ne_eqb (number_of r) 0 (no_success r) })
 
 -- ---- refusal 12, and clear
 

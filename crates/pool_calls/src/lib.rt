@@ -1,94 +1,95 @@
 // Module 8 of document 01: the calls on a pool but for add. The pool is a table that the caller lends; every call but make tests it whole
-// first (12),
-// answers, and leaves in it just what the rules say, so that a miner's template never rests on a table that something else wrote into. A
-// refusal leaves it word for word as it was.
+// first (12), answers, and leaves in it just what the rules say, so that a miner's template never rests on a table that something else
+// wrote into. A refusal leaves it word for word as it was.
 
 #![tactic(auto)]
 
 ghost use Rattle.std.specs.Prelude.{◌≡◌};
+ghost use Rattle.refusals.specs.Refusals.{answer_from};
 ghost use Rattle.txids.specs.Txids.{txid_at};
 ghost use Rattle.pool_table.specs.Words.{pool_of, table_of};
 ghost use Rattle.pool_table.specs.Changes.{Becomes};
 ghost use Rattle.pool_rules.specs.Module8.{removed};
-ghost use Rattle.pool_rules.specs.Calls.{make_answer, after_make, named_reply, after_remove, after_set_cost, clear_answer, after_clear, totals_reply};
+ghost use Rattle.pool_rules.specs.Calls.{placed_from, totals_from, make_answer, after_make, named_reply, after_remove, after_set_cost};
+ghost use Rattle.pool_rules.specs.Calls.{clear_answer, after_clear, totals_reply};
 ghost use Rattle.pool_calls.specs.Steps.{unlinked_all, Takable};
 
-use pool_rules::{Found, Placed, Totals};
+use pool_rules::Sums;
 use pool_table::{Entry, Limits};
+use refusals::Refusal;
 use txids::Txid;
 
 // Empties the table and stores the limits. What stood there before does not matter.
-pub fn make(table: &mut [u64], limits: Limits) -> u64
-    ensures value { result ≡ make_answer table.old limits }
+pub fn make(table: &mut [u64], limits: Limits) -> Result<(), Refusal>
+    ensures value { answer_from result ≡ make_answer table.old limits }
     ensures table_after { table.new ≡ after_make table.old limits }
 {
-    if !pool_table::is_legal(table) {
-        return refusals::OUT_OF_RANGE;
-    }
-    if !limits.in_range() {
-        return refusals::OUT_OF_RANGE;
+    if !pool_table::is_legal(table) || !limits.in_range() {
+        return Err(Refusal::OutOfRange);
     }
     pool_table::make_empty(table, limits);
-    0
+    Ok(())
 }
 
-// Takes an entry out of the pool, with its links.
-pub fn remove(table: &mut [u64], txid: [u8; 32]) -> Placed
-    ensures value { result ≡ named_reply table.old (txid_at txid 0) }
+// Takes an entry out of the pool, with its links; answers the slot where it stood.
+pub fn remove(table: &mut [u64], txid: [u8; 32]) -> Result<usize, Refusal>
+    ensures value { placed_from result ≡ named_reply table.old (txid_at txid 0) }
     ensures table_after { table.new ≡ after_remove table.old (txid_at txid 0) }
 {
-    if !pool_check::is_well_formed(table) {
-        return Placed::refused(refusals::TABLE_ILL_FORMED);
-    }
-    let Found::At(slot) = pool_rules::find(table, Txid::of(txid)) else {
-        return Placed::refused(refusals::TXID_ABSENT);
-    };
+    let slot = place_of(table, txid)?;
     take_out(table, slot);
-    Placed::at(slot)
+    Ok(slot)
 }
 
-// Puts an entry's sigop cost anew, and nothing else.
-pub fn set_cost(table: &mut [u64], txid: [u8; 32], cost: u64) -> Placed
-    ensures value { result ≡ named_reply table.old (txid_at txid 0) }
+// Puts an entry's sigop cost anew, and nothing else; answers its slot.
+pub fn set_cost(table: &mut [u64], txid: [u8; 32], cost: u64) -> Result<usize, Refusal>
+    ensures value { placed_from result ≡ named_reply table.old (txid_at txid 0) }
     ensures table_after { table.new ≡ after_set_cost table.old (txid_at txid 0) cost }
 {
-    if !pool_check::is_well_formed(table) {
-        return Placed::refused(refusals::TABLE_ILL_FORMED);
-    }
-    let Found::At(slot) = pool_rules::find(table, Txid::of(txid)) else {
-        return Placed::refused(refusals::TXID_ABSENT);
-    };
+    let slot = place_of(table, txid)?;
     let mut entry = Entry::at(table, slot);
     entry.cost = cost;
     pool_table::put_entry(table, slot, entry);
-    Placed::at(slot)
+    Ok(slot)
 }
 
 // Empties the pool and keeps its limits.
-pub fn clear(table: &mut [u64]) -> u64
-    ensures value { result ≡ clear_answer table.old }
+pub fn clear(table: &mut [u64]) -> Result<(), Refusal>
+    ensures value { answer_from result ≡ clear_answer table.old }
     ensures table_after { table.new ≡ after_clear table.old }
 {
     if !pool_check::is_well_formed(table) {
-        return refusals::TABLE_ILL_FORMED;
+        return Err(Refusal::TableIllFormed);
     }
     let limits = Limits::of(table);
     pool_table::make_empty(table, limits);
-    0
+    Ok(())
 }
 
 // How many entries there are, and their raw weight together.
-pub fn totals(table: &[u64]) -> Totals
-    ensures { result ≡ totals_reply table.now }
+pub fn totals(table: &[u64]) -> Result<Sums, Refusal>
+    ensures { totals_from result ≡ totals_reply table.now }
 {
     if !pool_check::is_well_formed(table) {
-        return Totals::refused(refusals::TABLE_ILL_FORMED);
+        return Err(Refusal::TableIllFormed);
     }
-    Totals {
-        answer: 0,
+    Ok(Sums {
         entries: pool_rules::count_entries(table),
         weight: pool_table::total(table),
+    })
+}
+
+// The slot of the entry with this txid, in a table that is tested first: how remove and set_cost begin.
+fn place_of(table: &[u64], txid: [u8; 32]) -> Result<usize, Refusal>
+    ensures { placed_from result ≡ named_reply table.now (txid_at txid 0) }
+{
+    if !pool_check::is_well_formed(table) {
+        return Err(Refusal::TableIllFormed);
     }
+    let Some(slot) = pool_rules::find(table, Txid::from(txid)) else {
+        return Err(Refusal::TxidAbsent);
+    };
+    Ok(slot)
 }
 
 // The total falls, no slot names the one that goes, and then it is free.
@@ -107,10 +108,8 @@ fn take_out(table: &mut [u64], slot: usize)
 fn unlink_all(table: &mut [u64], slot: usize)
     ensures { Becomes (unlinked_all slot) table.old table.new }
 {
-    let n = pool_table::slots(table);
-    let mut s: usize = 0;
-    while s < n {
+    // The slots below s do not name it any more.
+    for s in 0..pool_table::slots(table) {
         pool_table::unlink(table, s, slot);
-        s += 1;
     }
 }

@@ -3,13 +3,12 @@
 
 #![tactic(auto)]
 
-ghost use Rattle.std.specs.Prelude.{◌≡◌, true, [], ◌∷◌, length};
+ghost use Rattle.std.specs.Prelude.{◌≡◌, [], ◌∷◌, length, is_some, IfSome};
 ghost use Rattle.pool_table.specs.Words.{pool_of};
 ghost use Rattle.pool_table.specs.WellFormed.{well_formed};
 ghost use Rattle.pool_order.specs.Packed.{Standing};
 ghost use Rattle.pool_check.specs.Linked.{linked_in};
 
-use pool_order::ByTxid;
 use pool_table::Limits;
 
 // Whether every part of refusal 12 holds. The dearest test comes last.
@@ -18,34 +17,25 @@ pub fn is_well_formed(table: &[u64]) -> bool
 {
     let mut keys = [0u64; 1025];
     let mut spare = [0u64; 1025];
-    if !sort_linked(table, &mut keys, &mut spare).stands {
-        return false;
-    }
-    pool_clusters::clusters_stand(table) // a cluster above its limits
+    // Of the parts, a cluster above its limits is left.
+    sort_linked(table, &mut keys, &mut spare).is_some() && pool_clusters::clusters_stand(table)
 }
 
-// Whether every part holds but for the limits of the clusters, and the slots by txid at the start of `keys`, where both rooms have more places
-// than the table has slots.
-pub fn sort_linked(table: &[u64], keys: &mut [u64], spare: &mut [u64]) -> ByTxid
-    ensures stands_value { result.stands ≡ linked_in table.now (length keys.old ∷ length spare.old ∷ []) }
-    ensures standing { result.stands ≡ true → Standing (pool_of table.now) result.count keys.old keys.new }
+// Whether every part holds but for the limits of the clusters, and then how many slots stand by txid at the start of `keys`, where both rooms
+// have more places than the table has slots.
+pub fn sort_linked(table: &[u64], keys: &mut [u64], spare: &mut [u64]) -> Option<usize>
+    ensures stands_value { is_some result ≡ linked_in table.now (length keys.old ∷ length spare.old ∷ []) }
+    ensures standing { IfSome result (λ n. Standing (pool_of table.now) n keys.old keys.new) }
 {
-    let none = ByTxid {
-        stands: false,
-        count: 0,
-    };
     if !Limits::of(table).in_range() {
-        return none;
+        return None;
     }
     if !pool_scan::rows_stand(table) {
-        return none; // a number, the total or a free slot
+        return None; // a number, the total or a free slot
     }
-    let slots = pool_order::sort_slots(table, keys, spare);
-    if !slots.stands {
-        return none; // a txid that stands twice
-    }
+    let n = pool_order::sort_slots(table, keys, spare)?; // a txid that stands twice
     if !pool_links::links_stand(table) {
-        return none; // a link or a chain of parents
+        return None; // a link or a chain of parents
     }
-    slots
+    Some(n)
 }

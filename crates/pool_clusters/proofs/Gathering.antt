@@ -5,7 +5,7 @@ use mathlib.Core.Logic.{⊎_elim}
 use mathlib.Core.List.{List}
 use Prim.Native.Nat.{ℕ, suc, ◌+◌, ◌≤◌, ◌<◌, min}
 use native.Mathlib.Omega.{arith}
-use lib.Dec.{eqb, ltb}
+use lib.Dec.{eqb, ltb, leb}
 use lib.ListN.{length}
 use borrow.Author.Tests.{lt-ltb, le-leb, lt-leb}
 use Rattle.lists.specs.Below.{count_from}
@@ -21,8 +21,7 @@ use Rattle.weights.specs.Weights.{most}
 use Rattle.pool_table.specs.Pool.{Pool, slot_count, weight_at}
 use Rattle.pool_table.specs.Links.{is_linked, in_clusters, count_of, weight_of}
 use Rattle.pool_clusters.specs.declared.Union.{Union}
-use Rattle.pool_clusters.specs.declared.Part.{Part}
-use Rattle.pool_clusters.specs.Clusters.{union_of, AllSlots, Gathered}
+use Rattle.pool_clusters.specs.Clusters.{union_of, AllSlots, AllOf}
 use Rattle.pool_clusters.proofs.Sums.{sum_ext, sum_none, sum_without}
 use Rattle.pool_clusters.proofs.Linked.{linked_bounded, clusters_reached}
 use Rattle.pool_clusters.proofs.Floods.{Flooding, flood_start, flood_turn, done_turn, done_here, flood_done}
@@ -145,14 +144,14 @@ module _
         g.weighed
         ∙ ap (λ (n : ℕ). min n most) (sum_ext (weight_at p) (done found todo) (in_clusters p (has_in seeds)) (slot_count p) 0 (λ i a b. done_all i))
 
-    pub gather_all : Gathered p (in_clusters p (has_in seeds)) limit
-        (record { found = found; union = record { count = count; weight = record { 0 = weight } }; whole = true })
+    pub gather_all : AllOf p (in_clusters p (has_in seeds)) limit
+        (record { members = found; union = record { count = count; weight = record { 0 = weight } } })
     unfolding union_of
     gather_all =
         record {
-          whole = sym (le-leb (count_of p (in_clusters p (has_in seeds))) limit (omega (arith, g.few, count_all)));
-          found = λ h i. found_all i;
-          union = λ h. ap₂ {C = Union} (λ (c w : ℕ). record { count = c; weight = record { 0 = w } }) count_all weight_all;
+          few = le-leb (count_of p (in_clusters p (has_in seeds))) limit (omega (arith, g.few, count_all));
+          members = found_all;
+          union = ap₂ {C = Union} (λ (c w : ℕ). record { count = c; weight = record { 0 = w } }) count_all weight_all;
         }
 
   -- the limit is reached, and there is more
@@ -172,15 +171,10 @@ module _
         (ap₂ (λ (x y : Bool). x && not y) in' here) in
         omega (arith, g.counted)
 
-    pub gather_more : (part : Part) → part.whole ≡ false → Gathered p (in_clusters p (has_in seeds)) limit part
-    gather_more part e =
-        record {
-          whole = e ∙ sym (lt-leb (count_of p (in_clusters p (has_in seeds))) limit more);
-          found = λ h. clash h e;
-          union = λ h. clash h e;
-        }
+    pub gather_more : leb (count_of p (in_clusters p (has_in seeds))) limit ≡ false
+    gather_more = lt-leb (count_of p (in_clusters p (has_in seeds))) limit more
 
 -- a search that may find as many as there are is not stopped
-pub never_more : (p : Pool) (f : ℕ → Bool) (part : Part) → slot_count p ≤ capacity → Gathered p f capacity part → part.whole ≡ true
+pub never_more : (p : Pool) (f : ℕ → Bool) → slot_count p ≤ capacity → leb (count_of p f) capacity ≡ true
 unfolding count_of
-never_more p f part l h = h.whole ∙ le-leb (count_of p f) capacity (omega (arith, count_le f (slot_count p) 0))
+never_more p f l = le-leb (count_of p f) capacity (omega (arith, count_le f (slot_count p) 0))

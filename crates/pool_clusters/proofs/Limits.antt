@@ -10,6 +10,7 @@ use lib.Dec.{eqb, ltb, leb}
 use lib.ListN.{length}
 use borrow.Author.Count.{below_more}
 use borrow.Author.Tests.{le-leb, lt-leb, leb-true, eq-eqb}
+use Rattle.std.specs.Prelude.{Option, Some, None}
 use Rattle.lists.proofs.Bools.{clash, and_both, and_left, or_either, is_false}
 use Rattle.lists.proofs.Numbers.{flip}
 use Rattle.lists.proofs.Below.{count_ext, count_without, all_at, at_all}
@@ -24,8 +25,8 @@ use Rattle.pool_table.specs.Ranges.{limits_in_range}
 use Rattle.pool_table.specs.Links.{has_links, is_linked, in_cluster, in_clusters, count_of, sum_from, weight_of}
 use Rattle.pool_table.specs.WellFormed.{is_within, clusters_within}
 use Rattle.pool_clusters.specs.declared.Union.{Union}
-use Rattle.pool_clusters.specs.declared.Part.{Part}
-use Rattle.pool_clusters.specs.Clusters.{union_of, Gathered}
+use Rattle.pool_clusters.specs.declared.Found.{Found}
+use Rattle.pool_clusters.specs.Clusters.{union_of, AllOf, Gathered, ClusterWithin}
 use Rattle.pool_clusters.proofs.Reached.{reached_one, onward_lone}
 use Rattle.pool_clusters.proofs.Sums.{sum_ext, sum_none, sum_within, sum_without}
 use Rattle.pool_clusters.proofs.Linked.{linked_none, linked_bounded, cluster_onward, clusters_reached}
@@ -45,12 +46,13 @@ module _ (p : Pool) (f g : ℕ → Bool) (same : (i : ℕ) → f i ≡ g i) wher
   unfolding union_of
   union_same = ap₂ {C = Union} (λ (c w : ℕ). record { count = c; weight = record { 0 = min w most } }) count_same weight_same
 
-  pub gathered_same : {limit : ℕ} {part : Part} → Gathered p f limit part → Gathered p g limit part
-  gathered_same {limit} h =
+  pub gathered_same : (limit : ℕ) (r : Option Found) → Gathered p f limit r → Gathered p g limit r
+  gathered_same limit None h = ap (λ (n : ℕ). leb n limit) (sym count_same) ∙ h
+  gathered_same limit (Some x) h =
       record {
-        whole = h.whole ∙ ap (λ (n : ℕ). leb n limit) count_same;
-        found = λ w i. h.found w i ∙ same i;
-        union = λ w. h.union w ∙ union_same;
+        few = ap (λ (n : ℕ). leb n limit) (sym count_same) ∙ h.few;
+        members = λ i. h.members i ∙ same i;
+        union = h.union ∙ union_same;
       }
 
 -- the clusters of one slot are its cluster
@@ -120,27 +122,27 @@ size_over : (w size : ℕ) → 4 * size < w → size < virtual_size w
 unfolding virtual_size
 size_over w size h = omega arith
 
-module _ (p : Pool) (f : ℕ → Bool) (part : Part) (h : Gathered p f p.limits.count part) where
+module _ (p : Pool) (f : ℕ → Bool) where
   -- the search was stopped: too many
-  pub too_many : part.whole ≡ false → is_within p f ≡ false
+  pub too_many : leb (count_of p f) p.limits.count ≡ false → is_within p f ≡ false
   unfolding is_within
-  too_many e = ap (λ (b : Bool). b && leb (virtual_size (weight_of p f)) p.limits.size) (sym h.whole ∙ e)
+  too_many e = ap (λ (b : Bool). b && leb (virtual_size (weight_of p f)) p.limits.size) e
 
-  module _ (small : p.limits.size ≤ 101000) (e : part.whole ≡ true) where
-    weight_is : part.union.weight.0 ≡ min (weight_of p f) most
+  module _ (x : Found) (h : AllOf p f p.limits.count x) (small : p.limits.size ≤ 101000) where
+    weight_is : x.union.weight.0 ≡ min (weight_of p f) most
     unfolding union_of
-    weight_is = ap (λ (u : Union). u.weight.0) (h.union e)
+    weight_is = ap (λ (u : Union). u.weight.0) h.union
 
-    pub too_heavy : 4 * p.limits.size < part.union.weight.0 → is_within p f ≡ false
+    pub too_heavy : 4 * p.limits.size < x.union.weight.0 → is_within p f ≡ false
     unfolding is_within
     too_heavy l =
-        ap₂ ◌&&◌ (sym h.whole ∙ e)
+        ap₂ ◌&&◌ h.few
         (lt-leb (virtual_size (weight_of p f)) p.limits.size (size_over (weight_of p f) p.limits.size (omega (arith, weight_is))))
 
-    pub stands : part.union.weight.0 ≤ 4 * p.limits.size → is_within p f ≡ true
+    pub stands : x.union.weight.0 ≤ 4 * p.limits.size → is_within p f ≡ true
     unfolding is_within
     stands l =
-        ap₂ ◌&&◌ (sym h.whole ∙ e)
+        ap₂ ◌&&◌ h.few
         (le-leb (virtual_size (weight_of p f)) p.limits.size (size_fits (weight_of p f) p.limits.size (omega (arith, weight_is))))
 
 -- ---- a set within another
@@ -189,33 +191,25 @@ module _ {p : Pool} {seen : List ℕ} {next : ℕ} (w : Walked p seen next) (l :
   pub walk_on : good p next ≡ true → Walked p seen (next + 1)
   walk_on h = record { short = omega arith; long = w.long; passed = below_more (λ i. good p i ≡ true) next w.passed h; safe = w.safe }
 
-  -- a free slot, one whose cluster is within the limits, and one that was seen
-  pub walk_free : occupied p next ≡ false → Walked p seen (next + 1)
-  walk_free e = walk_on (ap (λ (b : Bool). not b || is_within p (in_cluster p next)) e)
-
   within_good : is_within p (in_cluster p next) ≡ true → good p next ≡ true
   within_good h = ap (λ (b : Bool). not (occupied p next) || b) h ∙ or-true (not (occupied p next))
 
   pub walk_within : is_within p (in_cluster p next) ≡ true → Walked p seen (next + 1)
   walk_within h = walk_on (within_good h)
 
-  pub walk_seen : has_in seen next ≡ true → Walked p seen (next + 1)
-  walk_seen m = walk_within (w.safe next m)
-
   -- a cluster within the limits is seen
-  pub walk_turn : {part : Part} → Gathered p (in_cluster p next) p.limits.count part → part.whole ≡ true → is_within p (in_cluster p next) ≡ true
-      → (seen' : List ℕ) → length seen' ≡ length seen → ((i : ℕ) → has_in seen' i ≡ (has_in seen i || (ltb i (span seen) && has_in part.found i)))
-      → Walked p seen' (next + 1)
-  walk_turn {part} g e h seen' long more =
+  pub walk_turn : {found : List ℕ} → ClusterWithin p next found → (seen' : List ℕ) → length seen' ≡ length seen
+      → ((i : ℕ) → has_in seen' i ≡ (has_in seen i || (ltb i (span seen) && has_in found i))) → Walked p seen' (next + 1)
+  walk_turn {found} h seen' long more =
       record {
         short = omega arith;
         long = long ∙ w.long;
-        passed = below_more (λ i. good p i ≡ true) next w.passed (within_good h);
+        passed = below_more (λ i. good p i ≡ true) next w.passed (within_good h.within);
         safe = λ i m.
             ⊎_elim
             (w.safe i)
-            (λ f. cluster_less p next i (sym (g.found e i) ∙ (and_both (ltb i (span seen)) (has_in part.found i) f).1) h)
-            (or_either (has_in seen i) (ltb i (span seen) && has_in part.found i) (sym (more i) ∙ m));
+            (λ f. cluster_less p next i (sym (h.members i) ∙ (and_both (ltb i (span seen)) (has_in found i) f).1) h.within)
+            (or_either (has_in seen i) (ltb i (span seen) && has_in found i) (sym (more i) ∙ m));
       }
 
 pub walk_done : {p : Pool} {seen : List ℕ} {next : ℕ} → Walked p seen next → slot_count p ≤ next → clusters_within p ≡ true

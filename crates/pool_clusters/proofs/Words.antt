@@ -1,8 +1,9 @@
 -- Word by word: the links of a slot, seeds that are slots, and a set that is found. Assumes nothing.
 use mathlib.Core.Path.{◌≡◌, sym, ap, ap₂, ◌∙◌}
-use mathlib.Core.Bool.{Bool, true, false, not, ◌&&◌, ◌||◌, or-false}
+use mathlib.Core.Bool.{Bool, true, false, not, ◌&&◌, ◌||◌, or-false, and-false}
+use mathlib.Core.Logic.{⊎_elim}
 use mathlib.Core.List.{List}
-use Prim.Native.Nat.{ℕ, ◌+◌, ◌-◌, ◌*◌, ◌^◌, ◌≤◌, ◌<◌}
+use Prim.Native.Nat.{ℕ, ◌+◌, ◌-◌, ◌*◌, ◌^◌, ◌≤◌, ◌<◌, min}
 use native.Mathlib.Omega.{arith}
 use lib.Dec.{eqb, ltb}
 use lib.ListN.{length, get_or, set}
@@ -11,6 +12,8 @@ use borrow.Author.Tests.{lt-ltb, ltb-true, eqb-true}
 use Rattle.lists.proofs.Bools.{asked}
 use Rattle.txset.specs.Sets.{has, has_in}
 use Rattle.txset.proofs.Bits.{has_and, has_or, has_less}
+use Rattle.txset.proofs.Words.{has_in_past}
+use Rattle.lists.proofs.Numbers.{lt_or_ge}
 use Rattle.slotsets.specs.SlotSets.{capacity, set_words}
 use Rattle.slotsets.proofs.Words.{word_in, Upto, upto_old, upto_turn}
 use Rattle.slotsets.proofs.SlotSets.{set_past}
@@ -45,6 +48,13 @@ pub meet_word : (us vs : List ℕ) (j d : ℕ) → d < 64 → has (bit_and (get_
 meet_word us vs j d l = has_and (get_or us j 0) (get_or vs j 0) d ∙ ap₂ ◌&&◌ (word_in us j d l) (word_in vs j d l)
 
 -- ---- a set that is found
+
+pub meet_past : (us vs : List ℕ) (i : ℕ) → 64 * min (length vs) (length us) ≤ i → (has_in us i && has_in vs i) ≡ false
+meet_past us vs i h =
+    ⊎_elim
+    (λ (l : length us < length vs). ap (λ (b : Bool). b && has_in vs i) (has_in_past us i (omega arith)))
+    (λ (l : length vs ≤ length us). ap (λ (b : Bool). has_in us i && b) (has_in_past vs i (omega arith)) ∙ and-false (has_in us i))
+    (lt_or_ge (length us) (length vs))
 
 abbrev pub grown : List ℕ → (ℕ → Bool) → ℕ → Bool
 grown found f i = has_in found i || f i

@@ -1,6 +1,6 @@
 -- The words of a set that have members, and a walk over these alone: what it passes has none. Assumes nothing.
-use mathlib.Core.Path.{◌≡◌, refl, sym, ap, ap₂, ◌∙◌}
-use mathlib.Core.Bool.{Bool, true, false, not, ◌&&◌, ◌||◌, and-true, and-false, or-true, or-false}
+use mathlib.Core.Path.{◌≡◌, sym, ap, ◌∙◌}
+use mathlib.Core.Bool.{Bool, true, false, not, ◌&&◌, and-true, and-false}
 use mathlib.Core.Logic.{⊎_elim}
 use mathlib.Core.List.{List}
 use Prim.Native.Nat.{ℕ, ◌+◌, ◌-◌, ◌*◌, ◌/◌, ◌%◌, ◌≤◌, ◌<◌}
@@ -10,14 +10,14 @@ use lib.ListN.{length, get_or, get_or-eq_default}
 use borrow.Author.Tests.{lt-ltb, le-ltb, le-leb, lt-leb, leb-true, eq-eqb, ne_eqb, eqb-true, not-false}
 use Rattle.lists.specs.Below.{count_from}
 use Rattle.lists.proofs.Bools.{clash, and_both}
-use Rattle.lists.proofs.Numbers.{lt_or_ge, by_number, below_here, below_else}
+use Rattle.lists.proofs.Numbers.{lt_or_ge}
 use Rattle.lists.proofs.Below.{first_is, count_shift, count_split}
 use Rattle.lists.proofs.Ranges.{count_none}
 use Rattle.txset.specs.declared.TxSet.{TxSet}
-use Rattle.txset.specs.Sets.{has, has_in, positions, is_position, mem, is_empty, lowest_of}
+use Rattle.txset.specs.Sets.{has, has_in, positions, mem, is_empty, lowest_of}
 use Rattle.txset.proofs.Bits.{has_nil}
 use Rattle.txset.proofs.Sets.{empty_mem}
-use Rattle.txset.proofs.Walk.{lowest_mem}
+use Rattle.txset.proofs.Walk.{lowest_mem, Turn}
 use Rattle.slotsets.specs.SlotSets.{set_words}
 
 -- whether word k of a set has members
@@ -26,35 +26,6 @@ is_filled ws k = not (eqb (get_or ws k 0) 0)
 
 pub filled_past : (ws : List ℕ) (k : ℕ) → length ws ≤ k → is_filled ws k ≡ false
 filled_past ws k l = ap not (eq-eqb (get_or ws k 0) 0 (get_or-eq_default ws 0 l))
-
--- ---- which of the first k words are filled
-
-module _ (ws : List ℕ) (k : ℕ) (some : TxSet) (below : (i : ℕ) → mem some i ≡ (ltb i k && is_filled ws i)) where
-  one_more : (some' : TxSet) → ((i : ℕ) → (i ≡ k → ⊥) → mem some' i ≡ mem some i) → mem some' k ≡ is_filled ws k
-      → (i : ℕ) → mem some' i ≡ (ltb i (k + 1) && is_filled ws i)
-  one_more some' else at =
-      by_number (λ i. mem some' i ≡ (ltb i (k + 1) && is_filled ws i)) k
-      (at ∙ sym (ap (λ (b : Bool). b && is_filled ws k) (below_here k)))
-      (λ i n. else i (λ z. n (sym z)) ∙ below i ∙ sym (ap (λ (b : Bool). b && is_filled ws i) (below_else i k n)))
-
-  pub filled_empty : get_or ws k 0 ≡ 0 → (i : ℕ) → mem some i ≡ (ltb i (k + 1) && is_filled ws i)
-  filled_empty e =
-      one_more some (λ i n. refl)
-      (below k ∙ ap (λ (b : Bool). b && is_filled ws k) (le-ltb k k (omega arith)) ∙ sym (ap not (eq-eqb (get_or ws k 0) 0 e)))
-
-  pub filled_insert : (some' : TxSet) → k < positions → (get_or ws k 0 ≡ 0 → ⊥) → ((i : ℕ) → mem some' i ≡ (mem some i || (is_position i && eqb i k)))
-      → (i : ℕ) → mem some' i ≡ (ltb i (k + 1) && is_filled ws i)
-  filled_insert some' l e put =
-      one_more some'
-      (λ i n.
-      put i
-      ∙ ap (λ (b : Bool). mem some i || (is_position i && b)) (ne_eqb i k n)
-      ∙ ap (λ (b : Bool). mem some i || b) (and-false (is_position i))
-      ∙ or-false (mem some i))
-      (put k
-      ∙ ap₂ (λ (b c : Bool). mem some k || (b && c)) (lt-ltb k positions l) (eq-eqb k k refl)
-      ∙ or-true (mem some k)
-      ∙ sym (ap not (ne_eqb (get_or ws k 0) 0 e)))
 
 -- ---- words without members
 
@@ -117,9 +88,9 @@ module _ {ws : List ℕ} {x : ℕ} {rest : TxSet} (a : Ahead ws x rest) where
   ahead_end e k l _ = passed k l (empty_mem rest e k)
 
   -- the next one
-  module _ (some : is_empty rest ≡ false) {j : ℕ} (at : j ≡ lowest_of rest) where
+  module _ {rest' : TxSet} {j : ℕ} (t : Turn rest rest' j) where
     is_left : (leb x j && is_filled ws j) ≡ true
-    is_left = sym (a.left j) ∙ ap (mem rest) at ∙ lowest_mem rest some
+    is_left = sym (a.left j) ∙ ap (mem rest) t.first ∙ lowest_mem rest t.left
 
     pub ahead_up : x ≤ j
     ahead_up = leb-true x j (and_both (leb x j) (is_filled ws j) is_left).0
@@ -133,21 +104,21 @@ module _ {ws : List ℕ} {x : ℕ} {rest : TxSet} (a : Ahead ws x rest) where
 
     before : (k : ℕ) → k < j → mem rest k ≡ false
     unfolding lowest_of
-    before k l = (first_is (mem rest) positions 0).before k (omega arith) (omega (arith, at))
+    before k l = (first_is (mem rest) positions 0).before k (omega arith) (omega (arith, t.first))
 
     pub ahead_gap : Gap ws x j
     ahead_gap k l m = passed k l (before k m)
 
-    pub ahead_next : {rest' : TxSet} → ((k : ℕ) → mem rest' k ≡ (mem rest k && not (eqb k (lowest_of rest)))) → Ahead ws (j + 1) rest'
-    ahead_next {rest'} next = record { whole = a.whole; within = omega (arith, ahead_below); left = still }
+    pub ahead_next : Ahead ws (j + 1) rest'
+    ahead_next = record { whole = a.whole; within = omega (arith, ahead_below); left = still }
       where
         gone : (k : ℕ) → k < j + 1 → mem rest' k ≡ false
         gone k l =
             ⊎_elim
-            (λ (m : k < j). next k ∙ ap (λ (b : Bool). b && not (eqb k (lowest_of rest))) (before k m))
+            (λ (m : k < j). t.next k ∙ ap (λ (b : Bool). b && not (eqb k (lowest_of rest))) (before k m))
             (λ (m : j ≤ k).
             let z : k ≡ j = omega arith in
-            next k ∙ ap (λ (b : Bool). mem rest k && not b) (eq-eqb k (lowest_of rest) (z ∙ at)) ∙ and-false (mem rest k))
+            t.next k ∙ ap (λ (b : Bool). mem rest k && not b) (eq-eqb k (lowest_of rest) (z ∙ t.first)) ∙ and-false (mem rest k))
             (lt_or_ge k j)
 
         still : (k : ℕ) → mem rest' k ≡ (leb (j + 1) k && is_filled ws k)
@@ -155,8 +126,8 @@ module _ {ws : List ℕ} {x : ℕ} {rest : TxSet} (a : Ahead ws x rest) where
             ⊎_elim
             (λ (l : k < j + 1). gone k l ∙ sym (ap (λ (b : Bool). b && is_filled ws k) (lt-leb (j + 1) k l)))
             (λ (l : j + 1 ≤ k).
-            next k
-            ∙ ap (λ (b : Bool). mem rest k && not b) (ne_eqb k (lowest_of rest) (λ z. absurd (omega (arith, at, z))))
+            t.next k
+            ∙ ap (λ (b : Bool). mem rest k && not b) (ne_eqb k (lowest_of rest) (λ z. absurd (omega (arith, t.first, z))))
             ∙ and-true (mem rest k)
             ∙ a.left k
             ∙ ap (λ (b : Bool). b && is_filled ws k) (le-leb x k (omega (arith, ahead_up)) ∙ sym (le-leb (j + 1) k l)))

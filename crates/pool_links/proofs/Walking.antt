@@ -20,7 +20,7 @@ use Rattle.lists.proofs.Lists.{elem_at, elem_head, elem_snoc, distinct_apart}
 use Rattle.txset.specs.declared.TxSet.{TxSet}
 use Rattle.txset.specs.Sets.{has_in, positions, mem, size, is_empty, lowest_of}
 use Rattle.txset.proofs.Sets.{empty_mem, mem_position}
-use Rattle.txset.proofs.Walk.{lowest_mem, lowest_position}
+use Rattle.txset.proofs.Walk.{lowest_mem, lowest_position, Turn}
 use Rattle.slotsets.specs.SlotSets.{capacity}
 use Rattle.slotsets.proofs.SlotSets.{set_past}
 use Rattle.pool_table.specs.declared.Side.{Side}
@@ -186,13 +186,12 @@ module _ (p : Pool) (a j : ℕ) where
       ∙ ap (λ (t : Bool). has_in (slot_at p a).children c && t) (and-true (ltb c (64 * j + 64)))
       ∙ ap (λ (n : ℕ). has_in (slot_at p a).children c && ltb c n) z
 
-  module _ (rest rest' : TxSet) (k : ℕ) (left : is_empty rest ≡ false) (at : k ≡ lowest_of rest)
-      (next : (d : ℕ) → mem rest' d ≡ (mem rest d && not (eqb d (lowest_of rest)))) (within : Left p a j rest) where
+  module _ {rest rest' : TxSet} {k : ℕ} (t : Turn rest rest' k) (within : Left p a j rest) where
     pub lowest_here : mem rest k ≡ true
-    lowest_here = ap (mem rest) at ∙ lowest_mem rest left
+    lowest_here = ap (mem rest) t.first ∙ lowest_mem rest t.left
 
     pub lowest_below : k < positions
-    lowest_below = subst (λ (n : ℕ). n < positions) (sym at) (lowest_position rest left)
+    lowest_below = subst (λ (n : ℕ). n < positions) (sym t.first) (lowest_position rest t.left)
 
     pub lowest_child : has_in (slot_at p a).children (64 * j + k) ≡ true
     lowest_child = within k lowest_here
@@ -207,7 +206,7 @@ module _ (p : Pool) (a j : ℕ) where
 
     next_else : (d : ℕ) → (d ≡ k → ⊥) → mem rest' d ≡ mem rest d
     next_else d n =
-        next d ∙ ap (λ (t : Bool). mem rest d && not t) (ne_eqb d (lowest_of rest) (λ e. n (e ∙ sym at))) ∙ and-true (mem rest d)
+        t.next d ∙ ap (λ (b : Bool). mem rest d && not b) (ne_eqb d (lowest_of rest) (λ e. n (e ∙ sym t.first))) ∙ and-true (mem rest d)
 
     pub next_left : Left p a j rest'
     next_left d h = cases (eqb d k) (λ z. subst (λ (x : ℕ). has_in (slot_at p a).children (64 * j + x) ≡ true) (sym (eqb-true d k z)) lowest_child)
@@ -225,7 +224,7 @@ module _ (p : Pool) (a j : ℕ) where
         More x = children_past p a j rest' x ≡ (children_past p a j rest x || eqb x (64 * j + k))
 
         gone : mem rest' k ≡ false
-        gone = next k ∙ ap (λ (t : Bool). mem rest k && not t) (eq-eqb k (lowest_of rest) at) ∙ and-false (mem rest k)
+        gone = t.next k ∙ ap (λ (b : Bool). mem rest k && not b) (eq-eqb k (lowest_of rest) t.first) ∙ and-false (mem rest k)
 
         here : More (64 * j + k)
         here =

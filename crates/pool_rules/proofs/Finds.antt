@@ -5,15 +5,17 @@ use Prim.Native.Nat.{ℕ, ◌+◌, ◌≤◌, ◌<◌}
 use native.Mathlib.Nat.{add-zero, zero-add}
 use native.Mathlib.Omega.{arith}
 use borrow.Author.Tests.{lt-ltb, le-ltb, not-true}
-use Rattle.lists.specs.Below.{bit, count_from, first_from}
+use Rattle.std.proofs.Common.{Option, Some, None, is_some}
+use Rattle.lists.specs.Below.{bit, count_from, first_from, some_below}
 use Rattle.lists.proofs.Below.{first_is, first_unique, any_first, count_split}
+use Rattle.lists.proofs.Found.{found_below, none_past}
 use Rattle.lists.proofs.Bools.{cond_first, cond_second}
 use Rattle.txids.specs.declared.Txid.{Txid}
 use Rattle.txids.specs.Txids.{same_txid}
 use Rattle.pool_table.specs.Pool.{Pool, slot_at, slot_count, occupied}
 use Rattle.pool_rules.specs.declared.Placed.{Placed}
 use Rattle.pool_rules.specs.Module8.{holds, is_in, slot_of, is_full, lowest_free}
-use Rattle.pool_rules.specs.Calls.{placed, no_slot}
+use Rattle.pool_rules.specs.Calls.{placed, no_slot, placed_of}
 
 -- ---- the first
 
@@ -72,9 +74,24 @@ module _ (p : Pool) (t : Txid) where
   pub is_nowhere : Answer (no_slot 10) → is_in p t ≡ false
   is_nowhere e = (cond_second (is_in p t) (sym e) (λ z. let d : 0 ≡ 10 = ap (λ (r : Placed). r.answer) z in omega arith)).0
 
+  -- it found one where the txid is in the pool
+  pub found_is : (o : Option ℕ) → Answer (placed_of o) → is_some o ≡ is_in p t
+  found_is (Some s) e = sym (is_at s e).0
+  found_is None e = sym (is_nowhere e)
+
 -- ---- the lowest free slot
 
 module _ (p : Pool) where
+  -- what the walk answers at a free slot, and past the last
+  pub lowest_here : (s : ℕ) → s < slot_count p → Missed (λ s. not (occupied p s)) s → not (occupied p s) ≡ true
+      → Some s ≡ some_below (slot_count p) (lowest_free p)
+  unfolding lowest_free
+  lowest_here s l m e = rw (first_here (λ s. not (occupied p s)) (slot_count p) s l m e) (sym (found_below (slot_count p) s l))
+
+  pub lowest_none : (s : ℕ) → s ≡ slot_count p → Missed (λ s. not (occupied p s)) s → ◌≡◌ {A = Option ℕ} None (some_below (slot_count p) (lowest_free p))
+  unfolding lowest_free
+  lowest_none s l m = rw (first_none (λ s. not (occupied p s)) (slot_count p) s l m) (sym (none_past (slot_count p) s (omega arith)))
+
   pub full_past : slot_count p ≤ lowest_free p → is_full p ≡ true
   unfolding is_full lowest_free
   full_past l = rw (any_first (λ s. not (occupied p s)) (slot_count p) 0, le-ltb (lowest_free p) (0 + slot_count p) (omega arith))

@@ -3,3 +3,4 @@ pub mod Listed
 pub mod Pools
 pub mod Tables
 pub mod Sound
+pub mod Outcomes

@@ -1,7 +1,8 @@
 -- Document 01: the six calls on a lent table. What each answers, in the order of its refusals, and the whole table that it leaves.
 -- "A refusal returns its number and zero for all else; all lent memory stays." Assumes nothing.
-use Rattle.std.specs.Prelude.{ℕ, ◌%◌, not, ◌&&◌, List, [], ◌∷◌, eqb, ltb, length}
-use Rattle.refusals.specs.Refusals.{Line, line, answer_of, reply_of, kept_unless}
+use Rattle.std.specs.Prelude.{ℕ, ◌%◌, not, ◌&&◌, List, [], ◌∷◌, eqb, ltb, length, Option, Some, None, Result, Ok, Err}
+use Rattle.refusals.specs.declared.Refusal.{Refusal}
+use Rattle.refusals.specs.Refusals.{Line, line, number_of, answer_of, reply_of, kept_unless}
 use Rattle.txids.specs.declared.Txid.{Txid}
 use Rattle.txids.specs.Txids.{txid_at}
 use Rattle.pool_table.specs.declared.Limits.{Limits}
@@ -13,8 +14,7 @@ use Rattle.pool_table.specs.Ranges.{limits_in_range, entry_in_range}
 use Rattle.pool_table.specs.WellFormed.{well_formed}
 use Rattle.pool_rules.specs.declared.Placed.{Placed}
 use Rattle.pool_rules.specs.declared.Totals.{Totals}
-use Rattle.pool_rules.specs.declared.Found.{Found}
-use Rattle.pool_rules.specs.declared.Found.TheVariants.{At, Nothing}
+use Rattle.pool_rules.specs.declared.Sums.{Sums}
 use Rattle.pool_rules.specs.Module8.{is_in, slot_of, is_full, lowest_free, is_listed, count_with, size_with, added, removed, cost_set, cleared}
 
 -- a refusal of a call that answers a slot, and of one that answers totals: the number, "and zero for all else"
@@ -28,9 +28,18 @@ abbrev pub placed : ℕ → Placed
 placed s = record { answer = 0; slot = s }
 
 -- "Whenever an answer is an enum, a definition gives this paper's number and values for each of the enum's cases": of the look-up
-abbrev pub placed_of : Found → Placed
-placed_of (At s) = placed s
-placed_of Nothing = no_slot 10
+abbrev pub placed_of : Option ℕ → Placed
+placed_of (Some s) = placed s
+placed_of None = no_slot 10
+
+-- what C is told of a call's outcome: of one that answers a slot, and of one that answers totals
+abbrev pub placed_from : Result ℕ Refusal → Placed
+placed_from (Ok s) = placed s
+placed_from (Err r) = no_slot (number_of r)
+
+abbrev pub totals_from : Result Sums Refusal → Totals
+totals_from (Ok s) = record { answer = 0; entries = s.entries; weight = s.weight }
+totals_from (Err r) = no_totals (number_of r)
 
 -- the entry that add is given; the txid is the four words of its 32 bytes
 abbrev pub entry_of : List ℕ → ℕ → ℕ → ℕ → Entry

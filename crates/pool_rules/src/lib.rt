@@ -5,16 +5,18 @@
 #![tactic(auto)]
 
 ghost use Rattle.std.specs.Prelude.{◌≡◌, cond, ◌||◌, length};
+ghost use Rattle.lists.specs.Below.{some_below};
 ghost use Rattle.txset.specs.Sets.{has_in};
 ghost use Rattle.slotsets.specs.SlotSets.{set_words, set_of};
-ghost use Rattle.pool_table.specs.Pool.{entries};
+ghost use Rattle.pool_table.specs.Pool.{slot_count, entries};
 ghost use Rattle.pool_table.specs.Words.{pool_of};
 ghost use Rattle.pool_rules.specs.Module8.{holds, is_in, slot_of, lowest_free, is_place_of, is_listed};
-ghost use Rattle.pool_rules.specs.Calls.{placed, no_slot, no_totals, placed_of};
+ghost use Rattle.pool_rules.specs.Calls.{placed, no_slot, placed_from, totals_from, placed_of};
 
+use refusals::Refusal;
 use txids::Txid;
 
-// What add, remove and set_cost answer: 0 and the entry's slot, or a refusal's number and 0.
+// What add, remove and set_cost answer C: 0 and the entry's slot, or a refusal's number and 0.
 #[repr(C)]
 #[derive(Clone, Copy)]
 pub struct Placed {
@@ -22,7 +24,28 @@ pub struct Placed {
     pub slot: usize,
 }
 
-// What totals answers: 0, the entries and the total raw weight, or a refusal's number and zeros.
+impl From<Result<usize, Refusal>> for Placed {
+    ghost from_gives = { λ r placed. placed ≡ placed_from r };
+
+    fn from(outcome: Result<usize, Refusal>) -> Placed {
+        match outcome {
+            Ok(slot) => Placed { answer: 0, slot },
+            Err(refusal) => Placed {
+                answer: refusal.number(),
+                slot: 0,
+            },
+        }
+    }
+}
+
+// A pool in sums: its entries, and their raw weight together.
+#[derive(Clone, Copy)]
+pub struct Sums {
+    pub entries: usize,
+    pub weight: u64,
+}
+
+// What totals answers C: 0 and the sums, or a refusal's number and zeros.
 #[repr(C)]
 #[derive(Clone, Copy)]
 pub struct Totals {
@@ -31,38 +54,21 @@ pub struct Totals {
     pub weight: u64,
 }
 
-// Where a txid stands.
-#[derive(Clone, Copy)]
-pub enum Found {
-    At(usize),
-    Nothing,
-}
+impl From<Result<Sums, Refusal>> for Totals {
+    ghost from_gives = { λ r totals. totals ≡ totals_from r };
 
-impl Placed {
-    pub fn refused(number: u64) -> Placed
-        ensures { result ≡ no_slot number }
-    {
-        Placed {
-            answer: number,
-            slot: 0,
-        }
-    }
-
-    pub fn at(slot: usize) -> Placed
-        ensures { result ≡ placed slot }
-    {
-        Placed { answer: 0, slot }
-    }
-}
-
-impl Totals {
-    pub fn refused(number: u64) -> Totals
-        ensures { result ≡ no_totals number }
-    {
-        Totals {
-            answer: number,
-            entries: 0,
-            weight: 0,
+    fn from(outcome: Result<Sums, Refusal>) -> Totals {
+        match outcome {
+            Ok(sums) => Totals {
+                answer: 0,
+                entries: sums.entries,
+                weight: sums.weight,
+            },
+            Err(refusal) => Totals {
+                answer: refusal.number(),
+                entries: 0,
+                weight: 0,
+            },
         }
     }
 }
@@ -72,53 +78,45 @@ fn holds(table: &[u64], s: usize, txid: Txid) -> bool
     ensures { result ≡ holds (pool_of table.now) txid s }
 {
     if pool_table::is_occupied(table, s) {
-        return pool_table::txid(table, s).same(txid);
+        return pool_table::txid(table, s) == txid;
     }
     false
 }
 
 // Where a txid stands. By cases, the number of document 01 and the slot.
-pub fn find(table: &[u64], txid: Txid) -> Found
+pub fn find(table: &[u64], txid: Txid) -> Option<usize>
     ensures { placed_of result ≡ cond (is_in (pool_of table.now) txid) (placed (slot_of (pool_of table.now) txid)) (no_slot 10) }
 {
-    let n = pool_table::slots(table);
-    let mut s: usize = 0;
-    while s < n {
+    for s in 0..pool_table::slots(table) {
         if holds(table, s, txid) {
-            return Found::At(s);
+            return Some(s);
         }
-        s += 1;
     }
-    Found::Nothing
+    None
 }
 
-// The lowest free slot, or the number of slots where there is none.
-pub fn lowest_free(table: &[u64]) -> usize
-    ensures { result ≡ lowest_free (pool_of table.now) }
+// The lowest free slot, if there is one.
+pub fn lowest_free(table: &[u64]) -> Option<usize>
+    ensures { result ≡ some_below (slot_count (pool_of table.now)) (lowest_free (pool_of table.now)) }
 {
-    let n = pool_table::slots(table);
-    let mut slot: usize = 0;
-    while slot < n {
+    for slot in 0..pool_table::slots(table) {
         if !pool_table::is_occupied(table, slot) {
-            return slot;
+            return Some(slot);
         }
-        slot += 1;
     }
-    n
+    None
 }
 
 // How many entries the pool has.
 pub fn count_entries(table: &[u64]) -> usize
     ensures { result ≡ entries (pool_of table.now) }
 {
-    let n = pool_table::slots(table);
     let mut count: usize = 0;
-    let mut s: usize = 0;
-    while s < n {
+    // Those below s are counted.
+    for s in 0..pool_table::slots(table) {
         if pool_table::is_occupied(table, s) {
             count += 1;
         }
-        s += 1;
     }
     count
 }
@@ -128,10 +126,10 @@ fn enter(set: &mut [u64], table: &[u64], own: Txid, txid: Txid)
     requires { length set.old ≡ set_words }
     ensures { set.new ≡ set_of (λ i. has_in set.old i || is_place_of (pool_of table.now) own txid i) }
 {
-    if txid.same(own) {
+    if txid == own {
         return;
     }
-    let Found::At(s) = find(table, txid) else {
+    let Some(s) = find(table, txid) else {
         return;
     };
     slotsets::insert(set, s);
@@ -142,12 +140,10 @@ fn enter(set: &mut [u64], table: &[u64], own: Txid, txid: Txid)
 pub fn listed_slots(table: &[u64], own: Txid, listed: &[u8]) -> [u64; 16]
     ensures { result ≡ set_of (is_listed (pool_of table.now) own listed.now) }
 {
-    let n = listed.len() / 32;
     let mut set = [0u64; 16];
-    let mut j: usize = 0;
-    while j < n {
+    // `set` has the places of the first j.
+    for j in 0..listed.len() / 32 {
         enter(&mut set, table, own, Txid::at(listed, 32 * j));
-        j += 1;
     }
     set
 }

@@ -19,16 +19,12 @@ pub fn rows_stand(table: &[u64]) -> bool
     if !pool_table::is_legal(table) {
         return false;
     }
-    let n = pool_table::slots(table);
     let mut sum: u64 = 0;
-    let mut s: usize = 0;
-    while s < n {
+    for s in 0..pool_table::slots(table) {
         if !row_stands(table, s) {
             return false;
         }
-        let weight = pool_table::weight(table, s);
-        sum += weight.0;
-        s += 1;
+        sum += pool_table::weight(table, s).0;
     }
     sum == pool_table::total(table)
 }

@@ -1,14 +1,14 @@
 -- What a write makes of the pool that a table means (specs/Changes.antt), from the words that it put and those that it left. Assumes nothing.
 use mathlib.Core.Path.{◌≡◌, refl, sym, ap, ap₂, ◌∙◌, subst}
 use mathlib.Core.Logic.{◌⊎◌, inl, inr, ⊎_elim}
-use mathlib.Core.Bool.{Bool, true, false, cond, not, ◌&&◌, ◌||◌}
+use mathlib.Core.Bool.{Bool, true, false, not, ◌&&◌, ◌||◌}
 use mathlib.Core.List.{List, [], ◌∷◌, ◌++◌}
 use Prim.Native.Nat.{ℕ, zero, suc, ◌+◌, ◌-◌, ◌*◌, ◌^◌, ◌≤◌, ◌<◌}
 use native.Mathlib.Omega.{arith}
 use lib.Dec.{lit<, eqb, ltb}
 use lib.ListN.{length, get_or, take, drop, set, replicate, length-take, length-drop, length-set, length-replicate, replicate-append-replicate, get_or-eq_default}
-use borrow.Author.Tests.{ltb-true, ltb-false, lt-ltb}
-use Rattle.lists.proofs.Bools.{clash, and_left, and_right, cond_first}
+use borrow.Author.Tests.{ltb-false, lt-ltb}
+use Rattle.lists.proofs.Bools.{clash}
 use Rattle.lists.proofs.Numbers.{lt_or_ge, by_number}
 use Rattle.txset.specs.Sets.{has_in}
 use Rattle.txset.proofs.Words.{Fits}
@@ -19,13 +19,13 @@ use Rattle.pool_table.specs.declared.Limits.{Limits}
 use Rattle.pool_table.specs.declared.Side.{Side}
 use Rattle.pool_table.specs.declared.Side.TheVariants.{Parents, Children}
 use Rattle.pool_table.specs.Pool.{Slot, Pool, free, slot_at, slot_count}
-use Rattle.pool_table.specs.Words.{header, row, row_at, parents_at, children_at, side_at, total_at, slots_in, is_legal, entry_in, slot_in, limits_in, pool_of, entry_words, slot_words, rows_of, table_of}
+use Rattle.pool_table.specs.Words.{header, row, row_at, parents_at, children_at, side_at, total_at, slots_in, is_legal, HasRow, entry_in, slot_in, limits_in, pool_of, entry_words, slot_words, rows_of, table_of}
 use Rattle.pool_table.specs.Changes.{changed, with_entry, with_link, unlinked, with_total, free_slots, made, Becomes}
 use Rattle.pool_table.proofs.Parts.{part_take}
 use Rattle.pool_table.proofs.Puts.{back, Put, put_part, put_there, put_else}
 use Rattle.pool_table.proofs.Theorems.{legal_long, pool_table}
 use Rattle.pool_table.proofs.Pools.{whole_made, pool_ext, changed_count, changed_here, changed_else, changed_past}
-use Rattle.pool_table.proofs.Rows.{slot_count_lem, slot_at_lem, row_within, word_at, slot_is, slot_same, txid_is, entry_is, entry_words_lem, whole_row, whole_free, free_zeros, length_entry, side_end}
+use Rattle.pool_table.proofs.Rows.{slot_count_lem, slot_at_lem, word_at, slot_is, slot_same, txid_is, entry_is, entry_words_lem, whole_row, whole_free, free_zeros, length_entry, side_end}
 
 -- ---- a table that stays
 
@@ -36,32 +36,15 @@ stays e = record { long = refl; means = λ h. clash h e; stays = λ h. refl }
 pub legal_header : (t : List ℕ) → is_legal (length t) ≡ true → header ≤ length t
 legal_header t e = omega (arith, legal_long (length t) e)
 
--- there is such a slot in a table of a legal length, and its row starts there
-pub record Row (t : List ℕ) (s at : ℕ) : Type 0 where
-  pub legal : is_legal (length t) ≡ true
-  pub inside : s < slot_count (pool_of t)
-  pub start : at ≡ row_at s
-
-module _ (t : List ℕ) (s : ℕ) {at : ℕ} (e : at ≡ cond (is_legal (length t) && ltb s (slot_count (pool_of t))) (row_at s) 0) where
-  pub row_there : (at ≡ 0 → ⊥) → Row t s at
-  row_there n =
-      let b = is_legal (length t) in
-      let c = ltb s (slot_count (pool_of t)) in
-      let h = cond_first (b && c) (sym e) (λ z. n (sym z)) in
-      record { legal = and_left b c h.0; inside = ltb-true s (slot_count (pool_of t)) (and_right b c h.0); start = sym h.1 }
-
-  pub row_none : (f : Slot → Slot) → at ≡ 0 → Becomes (changed s f) t t
-  row_none f z = go (is_legal (length t)) (ltb s (slot_count (pool_of t))) refl refl
-    where
-      go : (b c : Bool) → is_legal (length t) ≡ b → ltb s (slot_count (pool_of t)) ≡ c → Becomes (changed s f) t t
-      go false c p q = stays p
-      go true false p q =
-          record { long = refl; means = λ h. sym (changed_past s f (pool_of t) (ltb-false s (slot_count (pool_of t)) q)); stays = λ h. clash p h }
-      go true true p q = absurd (omega (arith, z, e ∙ ap₂ (λ (b c : Bool). cond (b && c) (row_at s) 0) p q))
-
--- a row ends within the table
-pub row_end : {t : List ℕ} {s at : ℕ} → Row t s at → at + row ≤ length t
-row_end {t} {s} {at} r = omega (arith, row_within t s 38 r.inside (lit< tt), r.start)
+-- nor is a slot changed that is not there
+pub row_none : (t : List ℕ) (s : ℕ) (f : Slot → Slot) → (is_legal (length t) && ltb s (slot_count (pool_of t))) ≡ false → Becomes (changed s f) t t
+row_none t s f e = go (is_legal (length t)) refl
+  where
+    go : (b : Bool) → is_legal (length t) ≡ b → Becomes (changed s f) t t
+    go false p = stays p
+    go true p =
+        let q : ltb s (slot_count (pool_of t)) ≡ false = rw p at e in
+        record { long = refl; means = λ h. sym (changed_past s f (pool_of t) (ltb-false s (slot_count (pool_of t)) q)); stays = λ h. clash p h }
 
 -- ---- what is as it was
 
@@ -84,14 +67,14 @@ module _ (old new : List ℕ) (e : length new ≡ length old) where
 -- ---- one row written
 
 -- nothing but a row differs, and that is what f makes of it
-module _ (old new : List ℕ) (s : ℕ) {at : ℕ} (r : Row old s at) (f : Slot → Slot) (e : length new ≡ length old)
+module _ (old new : List ℕ) (s : ℕ) {at : ℕ} (r : HasRow old s at) (f : Slot → Slot) (e : length new ≡ length old)
     (out : (i : ℕ) → (i < at) ⊎ (at + row ≤ i) → get_or new i 0 ≡ get_or old i 0) (here : slot_in new at ≡ f (slot_in old at)) where
   row_here : slot_at (pool_of new) s ≡ slot_at (changed s f (pool_of old)) s
   row_here =
-      slot_at_lem new s (omega (arith, same_count old new e, r.inside))
+      slot_at_lem new s (omega (arith, same_count old new e, r.there))
       ∙ ap (slot_in new) (sym r.start) ∙ here ∙ ap (λ (n : ℕ). f (slot_in old n)) r.start
-      ∙ ap f (sym (slot_at_lem old s r.inside))
-      ∙ sym (changed_here s f (pool_of old) r.inside)
+      ∙ ap f (sym (slot_at_lem old s r.there))
+      ∙ sym (changed_here s f (pool_of old) r.there)
 
   row_else : (i : ℕ) → i < slot_count (pool_of old) → (i ≡ s → ⊥) → slot_at (pool_of new) i ≡ slot_at (changed s f (pool_of old)) i
   row_else i l n =
@@ -150,7 +133,7 @@ module _ {a : ℕ} {part old new : List ℕ} (p : Put a part old new) where
 -- ---- each write
 
 -- the entry
-pub entry_becomes : (old new : List ℕ) (s : ℕ) {at : ℕ} → Row old s at → (e : Entry) (part : List ℕ) → part ≡ entry_words e → Put at part old new
+pub entry_becomes : (old new : List ℕ) (s : ℕ) {at : ℕ} → HasRow old s at → (e : Entry) (part : List ℕ) → part ≡ entry_words e → Put at part old new
     → Becomes (changed s (with_entry e)) old new
 unfolding slot_in
 entry_becomes old new s {at} r e part h p =
@@ -159,7 +142,7 @@ entry_becomes old new s {at} r e part h p =
     (slot_same (entry_there p e h) (set_else p (at + parents_at) (inr (omega arith))) (set_else p (at + children_at) (inr (omega arith))))
 
 -- one more in the set of a side
-pub link_becomes : (old new : List ℕ) (s : ℕ) {at : ℕ} → Row old s at → (side : Side) (b : ℕ) (part : List ℕ) → Put (at + side_at side) part old new
+pub link_becomes : (old new : List ℕ) (s : ℕ) {at : ℕ} → HasRow old s at → (side : Side) (b : ℕ) (part : List ℕ) → Put (at + side_at side) part old new
     → length part ≡ set_words → part ≡ plus (set_from old (at + side_at side)) b → Becomes (changed s (with_link side b)) old new
 unfolding slot_in
 link_becomes old new s {at} r Parents b part p l h =
@@ -170,7 +153,7 @@ link_becomes old new s {at} r Children b part p l h =
     (slot_same (entry_else p at (omega arith)) (set_else p (at + parents_at) (inl (omega arith))) (set_there p l ∙ h))
 
 -- one less in both sets, the second after the first
-pub unlink_becomes : (old mid new : List ℕ) (s : ℕ) {at : ℕ} → Row old s at → (b : ℕ) (part rest : List ℕ)
+pub unlink_becomes : (old mid new : List ℕ) (s : ℕ) {at : ℕ} → HasRow old s at → (b : ℕ) (part rest : List ℕ)
     → Put (at + parents_at) part old mid → length part ≡ set_words → part ≡ minus (set_from old (at + parents_at)) b
     → Put (at + children_at) rest mid new → length rest ≡ set_words → rest ≡ minus (set_from mid (at + children_at)) b
     → Becomes (changed s (unlinked b)) old new
@@ -184,7 +167,7 @@ unlink_becomes old mid new s {at} r b part rest p l h q m g =
     (set_there q m ∙ g ∙ ap (λ (ws : List ℕ). minus ws b) (set_else p (at + children_at) (inr (omega arith)))))
 
 -- a whole row of zeros
-pub free_becomes : (old new : List ℕ) (s : ℕ) {at : ℕ} → Row old s at → (part : List ℕ) → part ≡ replicate row 0 → Put at part old new
+pub free_becomes : (old new : List ℕ) (s : ℕ) {at : ℕ} → HasRow old s at → (part : List ℕ) → part ≡ replicate row 0 → Put at part old new
     → Becomes (changed s (λ x. free)) old new
 free_becomes old new s {at} r part h p =
     let l : length part ≡ row = ap length h in
@@ -216,17 +199,17 @@ up_to_lem : (from n : ℕ) → up_to from n ≡ n
 up_to_lem from n = omega arith
 
 -- the words of an entry
-pub entered : (old part : List ℕ) (s : ℕ) {at : ℕ} → Row old s at → (e : Entry) → part ≡ entry_words e
+pub entered : (old part : List ℕ) (s : ℕ) {at : ℕ} → HasRow old s at → (e : Entry) → part ≡ entry_words e
     → Becomes (changed s (with_entry e)) old (back at (up_to at parents_at) part old)
 entered old part s {at} r e h =
     entry_becomes old (back at (up_to at parents_at) part old) s r e part h
-    (put_part at (up_to at parents_at) part old (omega (arith, row_end r)) (ap length h ∙ length_entry e ∙ sym (up_to_lem at parents_at)))
+    (put_part at (up_to at parents_at) part old (omega (arith, r.within)) (ap length h ∙ length_entry e ∙ sym (up_to_lem at parents_at)))
 
 -- zeros
-pub freed : (old part : List ℕ) (s : ℕ) {at : ℕ} → Row old s at → part ≡ replicate (length (take (up_to at row) (drop at old))) 0
+pub freed : (old part : List ℕ) (s : ℕ) {at : ℕ} → HasRow old s at → part ≡ replicate (length (take (up_to at row) (drop at old))) 0
     → Becomes (changed s (λ x. free)) old (back at (up_to at row) part old)
 freed old part s {at} r h =
-    let w : at + row ≤ length old = row_end r in
+    let w : at + row ≤ length old = r.within in
     let l : length (take (up_to at row) (drop at old)) ≡ row = simp (length-take, length-drop) (omega arith) in
     let m : part ≡ replicate row 0 = h ∙ ap (λ (n : ℕ). replicate n 0) l in
     free_becomes old (back at (up_to at row) part old) s r part m (put_part at (up_to at row) part old (omega arith) (ap length m ∙ sym (up_to_lem at row)))
@@ -270,7 +253,7 @@ module _ (old part : List ℕ) (a b : ℕ) (h : a + set_words ≤ length old) (l
       (λ i m. g i ∙ ap (λ (ws : List ℕ). has_in ws i && not (eqb i b)) given_is))
 
 -- the set of a side, with one slot more
-pub linked : (old part : List ℕ) (s : ℕ) {at : ℕ} → Row old s at → (side : Side) (b o : ℕ) → o ≡ side_at side
+pub linked : (old part : List ℕ) (s : ℕ) {at : ℕ} → HasRow old s at → (side : Side) (b o : ℕ) → o ≡ side_at side
     → length part ≡ length (take (up_to (at + o) set_words) (drop (at + o) old))
     → ((i : ℕ)
     → has_in part i
@@ -281,14 +264,14 @@ pub linked : (old part : List ℕ) (s : ℕ) {at : ℕ} → Row old s at → (si
 linked old part s {at} r side b o q l g f =
     let a = at + o in
     let new = back a (up_to a set_words) part old in
-    let h : a + set_words ≤ length old = omega (arith, row_end r, side_end side) in
+    let h : a + set_words ≤ length old = omega (arith, r.within, side_end side) in
     link_becomes old new s r side b part
     (subst (λ (n : ℕ). Put (at + n) part old new) q (back_put old part a b h l))
     (back_long old part a b h l)
     (back_plus old part a b h l f g ∙ ap (λ (n : ℕ). plus (set_from old (at + n)) b) q)
 
 -- both sets, lent one after the other, with one slot less
-module _ (old part : List ℕ) (s : ℕ) {at : ℕ} (r : Row old s at) (b : ℕ)
+module _ (old part : List ℕ) (s : ℕ) {at : ℕ} (r : HasRow old s at) (b : ℕ)
     (l : length part ≡ length (take (up_to (at + parents_at) set_words) (drop (at + parents_at) old))) where
   abbrev half : List ℕ
   half = back (at + parents_at) (up_to (at + parents_at) set_words) part old
@@ -297,13 +280,13 @@ module _ (old part : List ℕ) (s : ℕ) {at : ℕ} (r : Row old s at) (b : ℕ)
   next = at + parents_at + set_words
 
   first_within : at + parents_at + set_words ≤ length old
-  first_within = omega (arith, row_end r)
+  first_within = omega (arith, r.within)
 
   first_put : Put (at + parents_at) part old half
   first_put = back_put old part (at + parents_at) b first_within l
 
   pub next_within : next + set_words ≤ length half
-  next_within = omega (arith, first_put.long, row_end r)
+  next_within = omega (arith, first_put.long, r.within)
 
   pub unlinked_both : (rest : List ℕ)
       → ((i : ℕ) → has_in part i ≡ (has_in (take (up_to (at + parents_at) set_words) (drop (at + parents_at) old)) i && not (eqb i b)))

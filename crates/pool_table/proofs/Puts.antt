@@ -2,12 +2,12 @@
 -- as it was. Every write of the table is one of these, so a later field is one more line. Assumes nothing.
 use mathlib.Core.Path.{◌≡◌, sym, ap, ◌∙◌}
 use mathlib.Core.Logic.{◌⊎◌, inl, inr, ⊎_elim}
-use mathlib.Core.List.{List, [], ◌∷◌, ◌++◌, append-nil}
+use mathlib.Core.List.{List, [], ◌∷◌, ◌++◌}
 use Prim.Native.Nat.{ℕ, zero, suc, ◌+◌, ◌-◌, ◌≤◌, ◌<◌}
 use native.Mathlib.Nat.{add-zero}
 use native.Mathlib.Omega.{arith}
-use lib.ListN.{length, get_or, take, drop, set, length-append, length-take, length-drop, length-set, drop_of_length-le, get_or-append}
-use lib.Seq.{ext_get_or, length-take-le, get_or-append-add, get_or-take, get_or-drop, get_or-set_same, get_or-set_other, sets, sets-eq}
+use lib.ListN.{length, get_or, take, drop, set, length-append, length-take, length-drop, length-set, get_or-append}
+use lib.Seq.{ext_get_or, length-take-le, get_or-append-add, get_or-take, get_or-drop, get_or-set_same, get_or-set_other}
 use Rattle.slotsets.specs.SlotSets.{words_from}
 use Rattle.slotsets.proofs.SlotSets.{length_from, get_d_from}
 use Rattle.pool_table.proofs.Parts.{part_ext}
@@ -79,8 +79,3 @@ module _ {at : ℕ} {part old new : List ℕ} (p : Put at part old new) where
   put_else b k h =
       part_ext new old k b b
       (λ i l. p.outer (b + i) (⊎_elim (λ (m : b + k ≤ at). inl (omega arith)) (λ (m : at + length part ≤ b). inr (omega arith)) h))
-
--- words stored one after the other, as many as there are
-pub sets_all : (vs ws : List ℕ) → length ws ≡ length vs → sets ws 0 vs ≡ vs
-sets_all vs ws e =
-    sets-eq vs ws 0 (omega arith) ∙ ap (λ (us : List ℕ). vs ++ us) (drop_of_length-le ws {i = 0 + length vs} (omega arith)) ∙ append-nil vs

@@ -1,17 +1,19 @@
 -- Where the words of a slot stand: the slots of a table are its rows, and word k of a slot is word k of its row. Assumes nothing.
 use mathlib.Core.Path.{◌≡◌, refl, sym, ap, ap₂, ◌∙◌, subst}
 use mathlib.Core.Logic.{⊎_elim}
-use mathlib.Core.Bool.{true, false}
+use mathlib.Core.Bool.{true, false, ◌&&◌, and-true}
 use mathlib.Core.List.{List, ◌++◌}
 use Prim.Native.Nat.{ℕ, zero, suc, ◌+◌, ◌-◌, ◌/◌, ◌≤◌, ◌<◌}
 use native.Mathlib.Nat.{add-zero}
 use native.Mathlib.Numerals.{towards_suc}
 use native.Mathlib.Omega.{arith}
-use lib.Dec.{lit<, lit≤, eqb}
-use lib.ListN.{length, get_or, replicate, length-append, get_or-append, get_or-eq_default}
-use lib.Seq.{ext_get_or, get_or-append-add}
+use lib.Dec.{lit<, lit≤, eqb, leb}
+use lib.ListN.{length, get_or, take, drop, replicate, length-append, get_or-append, get_or-eq_default}
+use lib.Seq.{ext_get_or, get_or-append-add, take-append_seam, take-length, drop-append_seam}
+use borrow.Author.Tests.{le-leb, leb-true}
 use Rattle.lists.specs.Lists.{all_of}
-use Rattle.slotsets.specs.SlotSets.{set_of, words_of, word_of, set_words, words_from, set_from}
+use Rattle.lists.proofs.Bools.{is_false, and_left, and_right}
+use Rattle.slotsets.specs.SlotSets.{capacity, set_of, words_of, word_of, set_words, words_from, set_from}
 use Rattle.slotsets.proofs.SlotSets.{set_long, none_zeros, get_d_from, from_long, from_at}
 use Rattle.lists.proofs.Numbers.{lt_or_ge}
 use Rattle.txids.specs.declared.Txid.{Txid}
@@ -19,7 +21,7 @@ use Rattle.pool_table.specs.declared.Entry.{Entry}
 use Rattle.pool_table.specs.declared.Side.{Side}
 use Rattle.pool_table.specs.declared.Side.TheVariants.{Parents, Children}
 use Rattle.pool_table.specs.Pool.{Slot, Pool, free, slot_at, slot_count}
-use Rattle.pool_table.specs.Words.{row, row_at, parents_at, children_at, side_at, slots_in, txid_in, entry_in, slot_in, slots_from, pool_of, entry_words, slot_words}
+use Rattle.pool_table.specs.Words.{row, row_at, parents_at, children_at, side_at, slots_in, is_legal, txid_in, entry_in, slot_in, slots_from, pool_of, entry_words, slot_words}
 use Rattle.pool_table.specs.Links.{side_of, has_links}
 use Rattle.pool_table.proofs.Parts.{part_split, zeros_at}
 
@@ -33,6 +35,23 @@ length_slots t (suc k) s = ap suc (length_slots t k (suc s))
 pub slot_count_lem : (t : List ℕ) → slot_count (pool_of t) ≡ slots_in (length t)
 unfolding pool_of
 slot_count_lem t = length_slots t (slots_in (length t)) 0
+
+-- a legal length by the number of slots
+module _ (t : List ℕ) (n : ℕ) (e : n ≡ slot_count (pool_of t)) where
+  legal_is : is_legal (length t) ≡ (eqb (row_at n) (length t) && (leb 1 n && leb n capacity))
+  unfolding is_legal
+  legal_is = ap (λ (m : ℕ). eqb (row_at m) (length t) && (leb 1 m && leb m capacity)) (sym (e ∙ slot_count_lem t))
+
+  pub legal_whole : 1 ≤ n → n ≤ capacity → eqb (row_at n) (length t) ≡ is_legal (length t)
+  legal_whole a b = rw (legal_is, le-leb 1 n a, le-leb n capacity b) (sym (and-true (eqb (row_at n) (length t))))
+
+  pub legal_not : (1 ≤ n → n ≤ capacity → ⊥) → false ≡ is_legal (length t)
+  legal_not h =
+      sym
+      (is_false (is_legal (length t))
+      (λ z.
+      let w = and_right (eqb (row_at n) (length t)) (leb 1 n && leb n capacity) (sym legal_is ∙ z) in
+      absurd (h (leb-true 1 n (and_left (leb 1 n) (leb n capacity) w)) (leb-true n capacity (and_right (leb 1 n) (leb n capacity) w)))))
 
 slots_at : (t : List ℕ) (k s i : ℕ) → i < k → get_or (slots_from t k s) i free ≡ slot_in t (row_at (s + i))
 unfolding slots_from
@@ -74,20 +93,9 @@ slot_words_lem t at =
     (ap (λ (n : ℕ). words_from t set_words (at + parents_at) ++ words_from t set_words n) (sym e) ∙ sym (part_split t set_words set_words (at + parents_at)))
     ∙ sym (part_split t parents_at 32 at)
 
--- the words of a slot, of both its sets, and of one of them are runs of its row
-module _ (t : List ℕ) (s : ℕ) (h : s < slot_count (pool_of t)) where
-  pub row_words : slot_words (slot_at (pool_of t) s) ≡ words_from t row (row_at s + 0)
-  row_words = ap slot_words (slot_at_lem t s h) ∙ slot_words_lem t (row_at s) ∙ ap (words_from t row) (sym (add-zero (row_at s)))
-
-  pub row_side : (side : Side) → side_of side (slot_at (pool_of t) s) ≡ words_from t set_words (row_at s + side_at side)
-  unfolding slot_in set_from
-  row_side Parents = ap (λ (x : Slot). x.parents) (slot_at_lem t s h)
-  row_side Children = ap (λ (x : Slot). x.children) (slot_at_lem t s h)
-
-  pub row_links : (slot_at (pool_of t) s).parents ++ (slot_at (pool_of t) s).children ≡ words_from t 32 (row_at s + parents_at)
-  row_links =
-      let e : row_at s + 23 ≡ row_at s + 7 + 16 = omega arith in
-      ap₂ ◌++◌ (row_side Parents) (row_side Children ∙ ap (words_from t set_words) e) ∙ sym (part_split t set_words set_words (row_at s + parents_at))
+-- the words of a slot are its row
+pub row_words : (t : List ℕ) (s : ℕ) → s < slot_count (pool_of t) → slot_words (slot_at (pool_of t) s) ≡ words_from t row (row_at s)
+row_words t s h = ap slot_words (slot_at_lem t s h) ∙ slot_words_lem t (row_at s)
 
 -- word k of a slot
 pub word_at : (t : List ℕ) (s k : ℕ) → s < slot_count (pool_of t) → k < row → get_or (slot_words (slot_at (pool_of t) s)) k 0 ≡ get_or t (row_at s + k) 0
@@ -152,6 +160,14 @@ side_at_lem Children x j w l =
     ap (λ (n : ℕ). get_or (entry_words x.entry ++ (x.parents ++ x.children)) n 0) e
     ∙ get_or-append-add (entry_words x.entry) (x.parents ++ x.children) (length x.parents + j) 0
     ∙ get_or-append-add x.parents x.children j 0
+
+-- the run of a side's words is its set
+pub side_part : (side : Side) (x : Slot) → Whole x → take set_words (drop (side_at side) (slot_words x)) ≡ side_of side x
+unfolding slot_words entry_words
+side_part Parents x w = rw (← w.parents) (take-append_seam x.parents x.children)
+side_part Children x w =
+    let e : drop 16 (x.parents ++ x.children) ≡ x.children = rw (← w.parents) (drop-append_seam x.parents x.children) in
+    ap (take 16) e ∙ rw (← w.children) (take-length x.children)
 
 -- past a set's end there is nothing
 pub side_past : (side : Side) (t : List ℕ) (s j : ℕ) → set_words ≤ j → get_or (side_of side (slot_at (pool_of t) s)) j 0 ≡ 0

@@ -1,14 +1,14 @@
--- Whether words are all 0, from their digits together; and words made 0, one after the other. Assumes nothing.
+-- Whether words are all 0, from their digits together. Assumes nothing.
 use mathlib.Core.Path.{◌≡◌, refl, sym, ap, ap₂, ◌∙◌}
 use mathlib.Core.Bool.{Bool, true, false, ◌&&◌, and_assoc, and-true}
-use mathlib.Core.List.{List, [], ◌∷◌, ◌++◌, append_assoc, append-nil}
+use mathlib.Core.List.{List}
 use Prim.Native.Nat.{ℕ, suc, ◌+◌, ◌≤◌, ◌<◌}
 use native.Mathlib.Numerals.{add-one}
 use native.Mathlib.Omega.{arith}
 use lib.Bits.{bit_or, or_zero_l, or_add_and, and_le_r}
 use lib.Dec.{eqb}
-use lib.ListN.{length, get_or, drop, set, replicate, length-replicate, replicate-append-replicate, drop_of_length-le}
-use lib.Seq.{drop-cons, set_at}
+use lib.ListN.{length, get_or, drop, drop_of_length-le}
+use lib.Seq.{drop-cons}
 use borrow.Author.Tests.{ne_eqb, eqb-true, eqb-false}
 use Rattle.lists.specs.Lists.{all_of}
 use Rattle.lists.proofs.Numbers.{flip}
@@ -36,16 +36,3 @@ pub zeroed_all : (ws : List ℕ) (k d : ℕ) → length ws ≤ k → all_of (eqb
 unfolding all_of
 zeroed_all ws k d l h =
     sym (h ∙ ap (λ (vs : List ℕ). eqb d 0 && all_of (eqb 0) vs) (drop_of_length-le ws l) ∙ and-true (eqb d 0))
-
--- the words before i are 0, the others as they were: so for one word more, and at the end
-pub cleared_more : (old : List ℕ) (i : ℕ) → i < length old → set (replicate i 0 ++ drop i old) i 0 ≡ replicate (i + 1) 0 ++ drop (i + 1) old
-cleared_more old i l =
-    ap (λ (ws : List ℕ). set (replicate i 0 ++ ws) i 0) (drop-cons old i 0 l)
-    ∙ set_at (replicate i 0) (get_or old i 0) (drop (suc i) old) 0 i (length-replicate i 0)
-    ∙ sym (append_assoc (replicate i 0) (0 ∷ []) (drop (suc i) old))
-    ∙ ap₂ ◌++◌ (replicate-append-replicate i 1 0) (ap (λ (n : ℕ). drop n old) (sym (add-one i)))
-
-pub cleared_all : (old : List ℕ) (i : ℕ) → i ≤ length old → length old ≤ i → replicate i 0 ++ drop i old ≡ replicate (length old) 0
-cleared_all old i m l =
-    let e : i ≡ length old = omega arith in
-    ap (λ (ws : List ℕ). replicate i 0 ++ ws) (drop_of_length-le old l) ∙ append-nil (replicate i 0) ∙ ap (λ (n : ℕ). replicate n 0) e

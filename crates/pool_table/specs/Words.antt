@@ -3,7 +3,7 @@
 -- is that table, and the pool of a pool's table is that pool, where each of its sets has 16 words, as in every pool of module 8
 -- (proofs/Theorems.antt). So "all lent memory stays" and "follow from the input alone" are equations over `Pool`. A later field is one
 -- more offset here. Assumes nothing.
-use Rattle.std.specs.Prelude.{ℕ, zero, suc, ◌+◌, ◌-◌, ◌*◌, ◌/◌, Bool, ◌&&◌, List, [], ◌∷◌, ◌++◌, eqb, leb, length, get_or}
+use Rattle.std.specs.Prelude.{ℕ, zero, suc, ◌+◌, ◌-◌, ◌*◌, ◌/◌, ◌<◌, ◌≤◌, ◌≡◌, Bool, true, ◌&&◌, List, [], ◌∷◌, ◌++◌, eqb, leb, length, get_or}
 use Rattle.slotsets.specs.SlotSets.{capacity, set_from}
 use Rattle.txids.specs.declared.Txid.{Txid}
 use Rattle.txids.specs.Txids.{words_of}
@@ -11,7 +11,7 @@ use Rattle.pool_table.specs.declared.Limits.{Limits}
 use Rattle.pool_table.specs.declared.Entry.{Entry}
 use Rattle.pool_table.specs.declared.Side.{Side}
 use Rattle.pool_table.specs.declared.Side.TheVariants.{Parents, Children}
-use Rattle.pool_table.specs.Pool.{Slot, Pool}
+use Rattle.pool_table.specs.Pool.{Slot, Pool, slot_at, slot_count}
 
 -- ---- where words stand
 
@@ -94,6 +94,19 @@ entry_words e = words_of e.txid ++ (e.fee ∷ e.weight.0 ∷ e.cost ∷ [])
 
 unfoldable pub slot_words : Slot → List ℕ
 slot_words x = entry_words x.entry ++ (x.parents ++ x.children)
+
+-- slot s is there, and these are the words of its row
+pub record IsRow (p : Pool) (s : ℕ) (ws : List ℕ) : Type 0 where
+  pub there : s < slot_count p
+  pub long : length ws ≡ row
+  pub words : ws ≡ slot_words (slot_at p s)
+
+-- slot s of a table of a legal length is there, and where its row starts
+pub record HasRow (t : List ℕ) (s at : ℕ) : Type 0 where
+  pub legal : is_legal (length t) ≡ true
+  pub there : s < slot_count (pool_of t)
+  pub start : at ≡ row_at s
+  pub within : at + row ≤ length t
 
 unfoldable pub rows_of : List Slot → List ℕ
 rows_of [] = []

@@ -4,12 +4,11 @@
 
 #![tactic(auto)]
 
-ghost use Rattle.std.specs.Prelude.{◌≡◌, cond, ◌&&◌, ◌+◌, ◌<◌, ◌≤◌, length, get_or, replicate, eqb, ltb};
+ghost use Rattle.std.specs.Prelude.{◌≡◌, false, ◌&&◌, ◌≤◌, length, get_or, eqb, ltb, MatchOption};
 ghost use Rattle.lists.specs.Lists.{all_of};
 ghost use Rattle.txset.specs.Sets.{has_in};
-ghost use Rattle.slotsets.specs.SlotSets.{words_from};
 ghost use Rattle.pool_table.specs.Pool.{slot_at, slot_count, occupied, free};
-ghost use Rattle.pool_table.specs.Words.{is_legal, pool_of, entry_words, slot_words, row, row_at, parents_at, side_at};
+ghost use Rattle.pool_table.specs.Words.{is_legal, pool_of, slot_words, IsRow, HasRow, side_at};
 ghost use Rattle.pool_table.specs.Ranges.{limits_in_range, entry_in_range};
 ghost use Rattle.pool_table.specs.Links.{side_of, links_at, has_links};
 ghost use Rattle.pool_table.specs.Changes.{Becomes, changed, with_entry, with_link, unlinked, with_total, made};
@@ -36,9 +35,6 @@ const PARENTS: usize = 7;
 
 const CHILDREN: usize = 23;
 
-// The words of both sets.
-const LINKS: usize = 32;
-
 // What making a pool stores.
 #[derive(Clone, Copy)]
 pub struct Limits {
@@ -64,19 +60,11 @@ pub enum Side {
 }
 
 impl Limits {
+    #[tactic(auto, unfolding(crate::specs::Ranges::limits_in_range))]
     pub fn in_range(self) -> bool
         ensures { result ≡ limits_in_range self }
     {
-        if self.count < 1 {
-            return false;
-        }
-        if 64 < self.count {
-            return false;
-        }
-        if self.size < 1 {
-            return false;
-        }
-        self.size <= 101_000
+        1 <= self.count && self.count <= 64 && 1 <= self.size && self.size <= 101_000
     }
 
     pub fn of(table: &[u64]) -> Limits
@@ -91,37 +79,32 @@ impl Limits {
 }
 
 impl Entry {
+    #[tactic(auto, unfolding(crate::specs::Ranges::entry_in_range))]
     pub fn in_range(self) -> bool
         ensures { result ≡ entry_in_range self }
     {
         let raw = self.weight.0;
-        if 2_100_000_000_000_000 < self.fee {
-            return false;
-        }
-        if raw < 1 {
-            return false;
-        }
-        raw <= 4_000_000
+        self.fee <= 2_100_000_000_000_000 && 1 <= raw && raw <= 4_000_000
     }
 
     // What slot s holds; past the last slot, what a free one does.
     pub fn at(table: &[u64], s: usize) -> Entry
         ensures { result ≡ (slot_at (pool_of table.now) s).entry }
     {
-        let id = txid(table, s);
-        if s < slots(table) {
+        let txid = txid(table, s);
+        let Some(row) = row(table, s) else {
             return Entry {
-                txid: id,
-                fee: word(table, s, FEE),
-                weight: RawWeight(word(table, s, RAW)),
-                cost: word(table, s, COST),
+                txid,
+                fee: 0,
+                weight: RawWeight(0),
+                cost: 0,
             };
-        }
+        };
         Entry {
-            txid: id,
-            fee: 0,
-            weight: RawWeight(0),
-            cost: 0,
+            txid,
+            fee: row[FEE],
+            weight: RawWeight(row[RAW]),
+            cost: row[COST],
         }
     }
 }
@@ -130,10 +113,7 @@ impl Entry {
 pub fn slots(table: &[u64]) -> usize
     ensures { result ≡ slot_count (pool_of table.now) }
 {
-    if table.len() < HEADER {
-        return 0;
-    }
-    (table.len() - HEADER) / ROW
+    table.len().saturating_sub(HEADER) / ROW
 }
 
 // Whether a table is a header and 1 to 1,024 whole slots.
@@ -141,41 +121,30 @@ pub fn is_legal(table: &[u64]) -> bool
     ensures { result ≡ is_legal (length table.now) }
 {
     let n = slots(table);
-    if n < 1 {
-        return false;
-    }
-    if CAPACITY < n {
+    if n < 1 || CAPACITY < n {
         return false;
     }
     HEADER + n * ROW == table.len()
 }
 
-// Word k of a slot's row. Every read of a slot tests once whether there is such a slot, a test that a loop over the slots need not repeat.
-fn word(table: &[u64], s: usize, k: usize) -> u64
-    requires { (s < slot_count (pool_of table.now)) × (k < row) }
-    ensures { result ≡ get_or (slot_words (slot_at (pool_of table.now) s)) k 0 }
+// The words of a slot's row; none where there is no such slot. Every read of a slot asks this once, a test that a loop over the slots need
+// not repeat.
+fn row(table: &[u64], s: usize) -> Option<&[u64]>
+    ensures { MatchOption result (slot_count (pool_of table.now) ≤ s) (λ r. IsRow (pool_of table.now) s r.now) }
 {
-    table[HEADER + s * ROW + k]
-}
-
-// A run of words of a slot's row, from word k on.
-fn part(table: &[u64], s: usize, k: usize, len: usize) -> &[u64]
-    requires { (s < slot_count (pool_of table.now)) × (k + len ≤ row) }
-    ensures { result.now ≡ words_from table.now len (row_at s + k) }
-{
-    let from = HEADER + s * ROW + k;
-    let end = from + len;
-    &table[from..end]
+    if slots(table) <= s {
+        return None;
+    }
+    let from = HEADER + s * ROW;
+    let end = from + ROW;
+    Some(&table[from..end])
 }
 
 // The word at a place of the header; past the table's end, 0.
 fn header_word(table: &[u64], at: usize) -> u64
     ensures { result ≡ get_or table.now at 0 }
 {
-    if at < table.len() {
-        return table[at];
-    }
-    0
+    table.get(at).copied().unwrap_or(0)
 }
 
 pub fn total(table: &[u64]) -> u64
@@ -188,29 +157,29 @@ pub fn total(table: &[u64]) -> u64
 pub fn txid(table: &[u64], s: usize) -> Txid
     ensures { result ≡ (slot_at (pool_of table.now) s).entry.txid }
 {
-    if s < slots(table) {
+    let Some(row) = row(table, s) else {
         return Txid {
-            w0: word(table, s, 0),
-            w1: word(table, s, 1),
-            w2: word(table, s, 2),
-            w3: word(table, s, 3),
+            w0: 0,
+            w1: 0,
+            w2: 0,
+            w3: 0,
         };
-    }
+    };
     Txid {
-        w0: 0,
-        w1: 0,
-        w2: 0,
-        w3: 0,
+        w0: row[0],
+        w1: row[1],
+        w2: row[2],
+        w3: row[3],
     }
 }
 
 pub fn weight(table: &[u64], s: usize) -> RawWeight
     ensures { result ≡ (slot_at (pool_of table.now) s).entry.weight }
 {
-    if s < slots(table) {
-        return RawWeight(word(table, s, RAW));
-    }
-    RawWeight(0)
+    let Some(row) = row(table, s) else {
+        return RawWeight(0);
+    };
+    RawWeight(row[RAW])
 }
 
 pub fn is_occupied(table: &[u64], s: usize) -> bool
@@ -224,10 +193,8 @@ fn are_zero(words: &[u64]) -> bool
     ensures { result ≡ all_of (eqb 0) words.now }
 {
     let mut digits: u64 = 0;
-    let mut k: usize = 0;
-    while k < words.len() {
-        digits |= words[k];
-        k += 1;
+    for &word in words {
+        digits |= word;
     }
     digits == 0
 }
@@ -236,20 +203,20 @@ fn are_zero(words: &[u64]) -> bool
 pub fn is_zeroed(table: &[u64], s: usize) -> bool
     ensures { result ≡ all_of (eqb 0) (slot_words (slot_at (pool_of table.now) s)) }
 {
-    if s < slots(table) {
-        return are_zero(part(table, s, 0, ROW));
-    }
-    true
+    let Some(row) = row(table, s) else {
+        return true;
+    };
+    are_zero(row)
 }
 
 // Whether slot s names any slot as its parent or its child.
 pub fn is_linked(table: &[u64], s: usize) -> bool
     ensures { result ≡ has_links (slot_at (pool_of table.now) s) }
 {
-    if s < slots(table) {
-        return !are_zero(part(table, s, PARENTS, LINKS));
-    }
-    false
+    let Some(row) = row(table, s) else {
+        return false;
+    };
+    !are_zero(&row[PARENTS..])
 }
 
 // Where a side's set starts in a row.
@@ -266,10 +233,12 @@ fn offset(side: Side) -> usize
 pub fn links(table: &[u64], side: Side, s: usize) -> &[u64]
     ensures { result.now ≡ links_at (pool_of table.now) side s }
 {
-    if s < slots(table) {
-        return part(table, s, offset(side), SET_WORDS);
-    }
-    &table[..0]
+    let Some(row) = row(table, s) else {
+        return &[];
+    };
+    let from = offset(side);
+    let end = from + SET_WORDS;
+    &row[from..end]
 }
 
 // Word j of a slot's parents or children: 64 slots, from 64 j on; past the set's end, 0.
@@ -279,10 +248,10 @@ pub fn link_word(table: &[u64], side: Side, s: usize, j: usize) -> u64
     if SET_WORDS <= j {
         return 0;
     }
-    if s < slots(table) {
-        return word(table, s, offset(side) + j);
-    }
-    0
+    let Some(row) = row(table, s) else {
+        return 0;
+    };
+    row[offset(side) + j]
 }
 
 // Whether slot s names slot b on a side.
@@ -292,55 +261,28 @@ pub fn names(table: &[u64], side: Side, s: usize, b: usize) -> bool
     link_word(table, side, s, b / 64) >> (b % 64) & 1 == 1
 }
 
-// Writes an entry's words: the start of a row.
-fn write_entry(words: &mut [u64], e: Entry)
-    requires { length words.old ≡ parents_at }
-    ensures { words.new ≡ entry_words e }
+// Where the row of a slot starts, in a table of a legal length; none where there is no such slot. Every write of a slot asks this first: a
+// table that is not of a legal length stays as it is, and so does one that has no such slot.
+fn row_of(table: &[u64], s: usize) -> Option<usize>
+    ensures { MatchOption result ((is_legal (length table.now) && ltb s (slot_count (pool_of table.now))) ≡ false)
+        (λ at. HasRow table.now s at) }
 {
-    let id = e.txid;
-    words[0] = id.w0;
-    words[1] = id.w1;
-    words[2] = id.w2;
-    words[3] = id.w3;
-    words[FEE] = e.fee;
-    words[RAW] = e.weight.0;
-    words[COST] = e.cost;
-}
-
-// Makes every word 0.
-fn clear(words: &mut [u64])
-    ensures { words.new ≡ replicate (length words.old) 0 }
-{
-    let mut i: usize = 0;
-    while i < words.len() {
-        words[i] = 0;
-        i += 1;
+    if !is_legal(table) || slots(table) <= s {
+        return None;
     }
-}
-
-// Where the row of a slot starts, in a table of a legal length; 0, where no row starts, if there is no such slot. Every write of a slot asks
-// this first: a table that is not of a legal length stays as it is, and so does one that has no such slot.
-fn row_of(table: &[u64], s: usize) -> usize
-    ensures { result ≡ cond (is_legal (length table.now) && ltb s (slot_count (pool_of table.now))) (row_at s) 0 }
-{
-    if !is_legal(table) {
-        return 0;
-    }
-    if slots(table) <= s {
-        return 0;
-    }
-    HEADER + s * ROW
+    Some(HEADER + s * ROW)
 }
 
 pub fn put_entry(table: &mut [u64], s: usize, e: Entry)
     ensures { Becomes (changed s (with_entry e)) table.old table.new }
 {
-    let at = row_of(table, s);
-    if at == 0 {
+    let Some(at) = row_of(table, s) else {
         return;
-    }
+    };
     let end = at + PARENTS;
-    write_entry(&mut table[at..end], e);
+    let id = e.txid;
+    let words = [id.w0, id.w1, id.w2, id.w3, e.fee, e.weight.0, e.cost];
+    table[at..end].copy_from_slice(&words);
 }
 
 pub fn put_total(table: &mut [u64], weight: u64)
@@ -356,10 +298,9 @@ pub fn put_total(table: &mut [u64], weight: u64)
 pub fn link(table: &mut [u64], side: Side, s: usize, b: usize)
     ensures { Becomes (changed s (with_link side b)) table.old table.new }
 {
-    let at = row_of(table, s);
-    if at == 0 {
+    let Some(at) = row_of(table, s) else {
         return;
-    }
+    };
     let from = at + offset(side);
     let end = from + SET_WORDS;
     slotsets::insert(&mut table[from..end], b);
@@ -369,10 +310,9 @@ pub fn link(table: &mut [u64], side: Side, s: usize, b: usize)
 pub fn unlink(table: &mut [u64], s: usize, b: usize)
     ensures { Becomes (changed s (unlinked b)) table.old table.new }
 {
-    let at = row_of(table, s);
-    if at == 0 {
+    let Some(at) = row_of(table, s) else {
         return;
-    }
+    };
     let from = at + PARENTS;
     let mid = from + SET_WORDS;
     let end = mid + SET_WORDS;
@@ -383,12 +323,11 @@ pub fn unlink(table: &mut [u64], s: usize, b: usize)
 pub fn free_slot(table: &mut [u64], s: usize)
     ensures { Becomes (changed s (λ x. free)) table.old table.new }
 {
-    let at = row_of(table, s);
-    if at == 0 {
+    let Some(at) = row_of(table, s) else {
         return;
-    }
+    };
     let end = at + ROW;
-    clear(&mut table[at..end]);
+    table[at..end].fill(0);
 }
 
 // Every slot free, and the limits put anew.
@@ -398,7 +337,7 @@ pub fn make_empty(table: &mut [u64], limits: Limits)
     if !is_legal(table) {
         return;
     }
-    clear(table);
+    table.fill(0);
     table[0] = limits.count;
     table[1] = limits.size;
     table[2] = limits.bytes_per_sigop;

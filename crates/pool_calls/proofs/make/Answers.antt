@@ -12,6 +12,7 @@ use Rattle.pool_table.proofs.Rows.{slot_count_lem}
 use Rattle.pool_rules.specs.Calls.{make_refusals, make_answer, after_make}
 use Rattle.pool_rules.proofs.Tables.{becomes_table}
 use Rattle.pool_calls.proofs.make.Goals as goal
+use Rattle.pool_calls.proofs.make.Goals.{then-not-is_legal-via-then-not-is_legal, then-not-is_legal-via-else-not-is_legal+then-not-in_range}
 
 -- a table and limits with one thing wrong, and with none
 wrong : (t : List ℕ) (l : Limits) → (is_legal (length t) && limits_in_range l) ≡ false → Gives (make_refusals t l) 3
@@ -32,18 +33,20 @@ unfolding make_answer after_make
 done t u l e h = (sym (right t l e).answer, writes t _ (right t l e) h)
 
 pub returns-then-not-is_legal : goal.returns-then-not-is_legal
-returns-then-not-is_legal c = let r = refused c.args.table.now c.args.limits (rw (sym c.is_legal.ensures ∙ c.if-not-is_legal.true)) in
-    record { value = r.0; table_after = r.1 }
-
-pub returns-then-not-in_range : goal.returns-then-not-in_range
-returns-then-not-in_range c = let t = c.args.table.now in
-    let r = refused t c.args.limits (rw (sym c.in_range.ensures ∙ c.if-not-in_range.true) (and-false (is_legal (length t)))) in
+returns-then-not-is_legal c =
+    let t = c.args.table.now in
+    let r = refused t c.args.limits
+    (elim c.then-not-is_legal.branch [
+      | then-not-is_legal-via-then-not-is_legal w ↦ rw (sym c.is_legal.ensures ∙ w.if-not-is_legal.true)
+      | then-not-is_legal-via-else-not-is_legal+then-not-in_range w ↦
+          rw (sym w.in_range.ensures ∙ w.if-not-in_range.true) (and-false (is_legal (length t)))
+    ]) in
     record { value = r.0; table_after = r.1 }
 
 pub returns : goal.returns
 returns c = let a = c.args in
     let t = a.table.now in
     let is : is_legal (length t) ≡ true = sym c.is_legal.ensures ∙ c.if-not-is_legal.false in
-    let in-range : limits_in_range a.limits ≡ true = sym c.in_range.ensures ∙ c.if-not-in_range.false in
-    let r = done t _ a.limits (rw (is, in-range)) (becomes_table is c.make_empty.ensures ∙ ap (λ (n : ℕ). table_of (made a.limits n)) (slot_count_lem t)) in
+    let in_range : limits_in_range a.limits ≡ true = sym c.in_range.ensures ∙ c.if-not-in_range.false in
+    let r = done t _ a.limits (rw (is, in_range)) (becomes_table is c.make_empty.ensures ∙ ap (λ (n : ℕ). table_of (made a.limits n)) (slot_count_lem t)) in
     record { value = r.0; table_after = r.1 }

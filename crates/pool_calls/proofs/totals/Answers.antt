@@ -7,8 +7,7 @@ use Rattle.pool_calls.proofs.totals.Goals as goal
 pub returns-then-not-is_well_formed : goal.returns-then-not-is_well_formed
 unfolding totals_reply
 returns-then-not-is_well_formed c =
-    refuses _ _ (stop (none_past refl) (ap not (sym c.is_well_formed.ensures ∙ c.if-not-is_well_formed.true)))
-    c.refused.ensures
+    refuses _ _ (stop (none_past refl) (ap not (sym c.is_well_formed.ensures ∙ c.if-not-is_well_formed.true))) refl
 
 pub returns : goal.returns
 unfolding totals_reply

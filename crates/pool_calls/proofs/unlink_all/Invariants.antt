@@ -1,12 +1,6 @@
-use Prim.Native.Nat.{◌-◌, ◌≤◌}
-use Rattle.pool_table.specs.Pool.{slot_count}
-use Rattle.pool_table.specs.Words.{pool_of}
 use Rattle.pool_table.specs.Changes.{Becomes}
 use Rattle.pool_calls.proofs.Leaving.{up_to}
 use Rattle.pool_calls.proofs.unlink_all.Given as goal
 
 abbrev pub invariant-loop-s : goal.invariant-loop-s
-invariant-loop-s l = (l.s ≤ slot_count (pool_of l.initial.table)) × Becomes (up_to l.slot l.s) l.initial.table l.table
-
-abbrev pub decreases-loop-s : goal.decreases-loop-s
-decreases-loop-s l = slot_count (pool_of l.initial.table) - l.s
+invariant-loop-s l = Becomes (up_to l.slot l.s) l.initial.table l.table

@@ -1,14 +1,10 @@
 use mathlib.Core.Path.{◌≡◌}
 use mathlib.Core.Bool.{◌&&◌}
-use Prim.Native.Nat.{ℕ, ◌-◌, ◌≤◌}
+use Prim.Native.Nat.{ℕ}
 use lib.Dec.{ltb}
 use Rattle.txset.specs.Sets.{mem}
-use Rattle.slotsets.specs.SlotSets.{set_words}
 use Rattle.pool_links.proofs.Gaps.{is_filled}
 use Rattle.pool_links.proofs.filled.Given as goal
 
 abbrev pub invariant-loop-k : goal.invariant-loop-k
-invariant-loop-k l = (l.k ≤ set_words) × ((i : ℕ) → mem l.some i ≡ (ltb i l.k && is_filled l.words i))
-
-abbrev pub decreases-loop-k : goal.decreases-loop-k
-decreases-loop-k l = set_words - l.k
+invariant-loop-k l = (i : ℕ) → mem l.some i ≡ (ltb i l.k && is_filled l.words i)

@@ -6,7 +6,7 @@ use Rattle.pool_links.specs.Steps.{of_done, Walk}
 use Rattle.pool_links.proofs.links_stand.Given as goal
 
 abbrev pub invariant-loop-at : goal.invariant-loop-at
-invariant-loop-at l = (l.at ≤ l.end) × Walk (pool_of l.table) (of_done (pool_of l.table) (take l.at l.queue)) l.needs l.queue l.end
+invariant-loop-at l = (l.at ≤ l.queue.end) × Walk (pool_of l.table) (of_done (pool_of l.table) (take l.at l.queue.slots)) l.queue.needs l.queue.slots l.queue.end
 
 abbrev pub decreases-loop-at : goal.decreases-loop-at
 decreases-loop-at l = capacity - l.at

@@ -21,16 +21,14 @@ overflow_add-count c =
 pub loop-s-preserved : goal.loop-s-preserved
 loop-s-preserved c =
     let f = occupied (pool_of c.args.table.now) in
-    let s = c.loop-s.s in (
-      search rules,
-      elim c.if-is_occupied.branch [
-        | then-is_occupied w ↦ omega (arith, count_more f s, ap bit (sym c.is_occupied.ensures ∙ w.if-is_occupied.true))
-        | else-is_occupied w ↦ omega (arith, count_more f s, ap bit (sym c.is_occupied.ensures ∙ w.if-is_occupied.false))
-      ],
-    )
+    let s = c.loop-s.s in
+    elim c.if-is_occupied.branch [
+      | then-is_occupied w ↦ omega (arith, count_more f s, ap bit (sym c.is_occupied.ensures ∙ w.if-is_occupied.true))
+      | else-is_occupied w ↦ omega (arith, count_more f s, ap bit (sym c.is_occupied.ensures ∙ w.if-is_occupied.false))
+    ]
 
 pub returns : goal.returns
 unfolding entries
 returns c = let p = pool_of c.args.table.now in
     let e : c.loop-s.s ≡ slot_count p = omega arith in
-    c.loop-s.invariant.1 ∙ ap (λ (k : ℕ). count_from (occupied p) k 0) e
+    c.loop-s.invariant ∙ ap (λ (k : ℕ). count_from (occupied p) k 0) e

@@ -6,18 +6,14 @@ use lib.Dec.{eqb}
 use lib.ListN.{length}
 use Rattle.weights.specs.declared.RawWeight.{RawWeight}
 use Rattle.pool_scan.specs.Rows.{row_stands}
-use borrow.Author.Rules.{rules}
 use Rattle.pool_table.specs.Pool.{slot_count}
 use Rattle.pool_table.specs.Words.{is_legal, pool_of}
 use Rattle.pool_table.proofs.Legal.{few_slots}
 use Rattle.pool_scan.proofs.Scan.{Scanned, scan_start, scan_turn, scan_bad, scan_done, weight_small}
 use Rattle.pool_scan.proofs.rows_stand.Goals as goal
 
-pub returns-then-not-is_legal : goal.returns-then-not-is_legal
-returns-then-not-is_legal c = rw (sym c.is_legal.ensures ∙ c.if-not-is_legal.true)
-
 pub loop-s-init : goal.loop-s-init
-loop-s-init c = (search rules, scan_start _)
+loop-s-init c = scan_start _
 
 pub returns-then-not-row_stands : goal.returns-then-not-row_stands
 returns-then-not-row_stands c =
@@ -34,19 +30,17 @@ overflow_add-sum c =
     sym c.row_stands.ensures ∙ c.if-not-row_stands.false in
     omega (
       arith,
-      c.loop-s.invariant.1.small,
+      c.loop-s.invariant.small,
       weight_small (pool_of table) s stands,
-      ap (λ (w : RawWeight). w.0) c.weight-weight.ensures,
+      ap (λ (w : RawWeight). w.0) c.weight-sum.ensures,
       few_slots table (sym c.is_legal.ensures ∙ c.if-not-is_legal.false),
     )
 
 pub loop-s-preserved : goal.loop-s-preserved
-loop-s-preserved c = (
-  search rules,
-  scan_turn c.loop-s.invariant.1
-      (sym c.row_stands.ensures ∙ c.if-not-row_stands.false)
-      (ap (λ (w : RawWeight). w.0) c.weight-weight.ensures),
-)
+loop-s-preserved c =
+    scan_turn c.loop-s.invariant
+    (sym c.row_stands.ensures ∙ c.if-not-row_stands.false)
+    (ap (λ (w : RawWeight). w.0) c.weight-sum.ensures)
 
 pub returns : goal.returns
 returns c =
@@ -54,5 +48,5 @@ returns c =
     let n : c.loop-s.s ≡ slot_count p = omega arith in
     let legal : is_legal (length c.args.table.now) ≡ true =
     sym c.is_legal.ensures ∙ c.if-not-is_legal.false in
-    rw (legal, scan_done p c.loop-s.sum (subst (λ (k : ℕ). Scanned p k c.loop-s.sum) n c.loop-s.invariant.1))
+    rw (legal, scan_done p c.loop-s.sum (subst (λ (k : ℕ). Scanned p k c.loop-s.sum) n c.loop-s.invariant))
     (ap (λ (t : ℕ). eqb c.loop-s.sum t) c.total.ensures)

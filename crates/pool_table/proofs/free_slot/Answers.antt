@@ -1,25 +1,10 @@
-use native.Mathlib.Omega.{arith}
 use Rattle.pool_table.specs.Pool.{free}
-use Rattle.pool_table.proofs.Changes.{row_there, row_none, row_end, freed}
+use Rattle.pool_table.proofs.Changes.{row_none, freed}
 use Rattle.pool_table.proofs.free_slot.Goals as goal
 
-pub returns-then-at-eq0 : goal.returns-then-at-eq0
-returns-then-at-eq0 c = let a = c.args in
-    row_none a.table.now a.s c.row_of-at.ensures (λ x. free) c.if-at-eq0.true
-
-pub overflow_add-end : goal.overflow_add-end
-overflow_add-end c = let a = c.args in
-    omega (arith, row_end (row_there a.table.now a.s c.row_of-at.ensures c.if-at-eq0.false))
-
-pub offset_bounds-table-at : goal.offset_bounds-table-at
-offset_bounds-table-at c = let a = c.args in
-    omega (arith, row_end (row_there a.table.now a.s c.row_of-at.ensures c.if-at-eq0.false))
-
-pub slice_bounds-clear-end : goal.slice_bounds-clear-end
-slice_bounds-clear-end c = let a = c.args in
-    omega (arith, row_end (row_there a.table.now a.s c.row_of-at.ensures c.if-at-eq0.false))
+pub returns-in_default : goal.returns-in_default
+returns-in_default c = row_none c.args.table.now c.args.s (λ x. free) c.in_default.ensures
 
 pub returns : goal.returns
-returns c = let a = c.args in
-    let r = row_there a.table.now a.s c.row_of-at.ensures c.if-at-eq0.false in
-    freed a.table.now c.clear.new.words a.s r c.clear.ensures
+returns c =
+    freed c.args.table.now c.fill.new.self c.args.s c.in-Some.ensures (c.fill.ensures.after (λ y e. e))

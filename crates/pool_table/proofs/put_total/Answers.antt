@@ -4,11 +4,8 @@ use native.Mathlib.Omega.{arith}
 use lib.ListN.{length}
 use Rattle.pool_table.specs.Words.{is_legal, total_at}
 use Rattle.pool_table.proofs.Puts.{put_word}
-use Rattle.pool_table.proofs.Changes.{stays, legal_header, total_becomes}
+use Rattle.pool_table.proofs.Changes.{legal_header, total_becomes}
 use Rattle.pool_table.proofs.put_total.Goals as goal
-
-pub returns-then-not-is_legal : goal.returns-then-not-is_legal
-returns-then-not-is_legal c = stays (sym c.is_legal.ensures ∙ c.if-not-is_legal.true)
 
 pub bounds-table-3 : goal.bounds-table-3
 bounds-table-3 c = let t = c.args.table.now in

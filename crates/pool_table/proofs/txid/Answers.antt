@@ -1,14 +1,17 @@
 use mathlib.Core.Path.{ap, sym}
-use native.Mathlib.Omega.{arith}
+use mathlib.Core.List.{List}
+use Prim.Native.Nat.{ℕ}
+use lib.ListN.{get_or}
+use Rattle.txids.specs.declared.Txid.{Txid}
 use Rattle.pool_table.specs.Pool.{Slot}
-use Rattle.pool_table.specs.Words.{slot_words, entry_words, pool_of}
-use Rattle.pool_table.proofs.Rows.{slot_past, txid_is}
+use Rattle.pool_table.specs.Words.{slot_words, entry_words}
+use Rattle.pool_table.proofs.Rows.{slot_past}
 use Rattle.pool_table.proofs.txid.Goals as goal
 
-pub returns-then-s-slots : goal.returns-then-s-slots
-unfolding slot_words entry_words
-returns-then-s-slots c = txid_is c.word.ensures c.word-then-s-slots.ensures c.word-then-s-slots-2.ensures c.word-then-s-slots-3.ensures
+pub returns-in_default : goal.returns-in_default
+returns-in_default c = ap (λ (x : Slot). x.entry.txid) (sym (slot_past _ _ c.in_default.ensures))
 
 pub returns : goal.returns
-returns c = let t = c.args.table.now in
-    ap (λ (x : Slot). x.entry.txid) (sym (slot_past (pool_of t) c.args.s (omega arith)))
+unfolding slot_words entry_words
+returns c =
+    ap {B = Txid} (λ (ws : List ℕ). record { w0 = get_or ws 0 0; w1 = get_or ws 1 0; w2 = get_or ws 2 0; w3 = get_or ws 3 0 }) c.in-Some.ensures.words

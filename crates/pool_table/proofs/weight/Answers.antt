@@ -1,16 +1,16 @@
 use mathlib.Core.Path.{ap, sym}
+use mathlib.Core.List.{List}
 use Prim.Native.Nat.{ℕ}
-use native.Mathlib.Omega.{arith}
+use lib.ListN.{get_or}
 use Rattle.weights.specs.declared.RawWeight.{RawWeight}
 use Rattle.pool_table.specs.Pool.{Slot}
-use Rattle.pool_table.specs.Words.{slot_words, entry_words, pool_of}
+use Rattle.pool_table.specs.Words.{slot_words, entry_words}
 use Rattle.pool_table.proofs.Rows.{slot_past}
 use Rattle.pool_table.proofs.weight.Goals as goal
 
-pub returns-then-s-slots : goal.returns-then-s-slots
-unfolding slot_words entry_words
-returns-then-s-slots c = ap {B = RawWeight} (λ (n : ℕ). record { 0 = n }) c.word.ensures
+pub returns-in_default : goal.returns-in_default
+returns-in_default c = ap (λ (x : Slot). x.entry.weight) (sym (slot_past _ _ c.in_default.ensures))
 
 pub returns : goal.returns
-returns c = let t = c.args.table.now in
-    ap (λ (x : Slot). x.entry.weight) (sym (slot_past (pool_of t) c.args.s (omega arith)))
+unfolding slot_words entry_words
+returns c = ap {B = RawWeight} (λ (ws : List ℕ). record { 0 = get_or ws 5 0 }) c.in-Some.ensures.words
