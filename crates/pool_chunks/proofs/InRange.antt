@@ -1,22 +1,21 @@
 -- The range of a delta as the code tests it, the walk over the occupied slots, and a fee with its delta. Assumes nothing.
-use mathlib.Core.Path.{◌≡◌, sym, ap₂, ◌∙◌}
-use mathlib.Core.Bool.{Bool, true, false, not, ◌&&◌, and-false}
+use mathlib.Core.Path.{◌≡◌, sym, ap, ap₂, ◌∙◌}
+use mathlib.Core.Bool.{Bool, true, false, not, ◌&&◌}
 use mathlib.Core.List.{List, [], ◌∷◌}
 use Prim.Native.Nat.{ℕ, suc, ◌+◌, ◌≤◌, ◌<◌, suc-le-suc}
 use native.Mathlib.Omega.{arith}
 use lib.Dec.{leb}
 use lib.ListN.{length, get_or}
 use lib.IntN.{ℤ, pos, negsuc, ◌+ℤ◌}
-use lib.Signed.{lt_z, le_z}
+use lib.Signed.{le_z}
 use mir.Syntax.{w64}
 use mir.Val.{SFits, to_z, of_z}
 use mir.ValLaws.{to_z-of_z}
 use mir.Facts.{to_z_pos}
-use borrow.Author.Count.{below_none, below_more}
-use borrow.Author.Tests.{ltb-true, ltb-false, leb-true, lt-leb, le-leb}
+use borrow.Author.Tests.{leb-true, le-leb}
 use Rattle.lists.proofs.Below.{any_at, at_none}
 use Rattle.lists.proofs.Bools.{and_both}
-use Rattle.feefrac.proofs.Signed.{up, down, Le, less_parts, most_parts, sum, in_range_lem}
+use Rattle.feefrac.proofs.Signed.{up, down, Le, most_parts, sum, in_range_lem}
 use Rattle.refusals.specs.Refusals.{in_range, first_outside, any_outside}
 use Rattle.refusals.proofs.Laws.{outside_none}
 use Rattle.weights.specs.Weights.{most, adjusted}
@@ -37,17 +36,21 @@ highest = pos 2100000000000000
 
 -- (an i64 parameter is read by its bits)
 module _ (d : ℤ) (h : SFits w64 d) where
-  pub delta_low : lt_z (to_z w64 (of_z w64 d)) lowest ≡ true → false ≡ delta_in_range d
-  unfolding delta_in_range
-  delta_low e =
-      let l = ltb-true (up d + down lowest) (up lowest + down d) (sym (less_parts d lowest) ∙ (rw (to_z-of_z w64 d h) at e)) in
-      rw (most_parts lowest d, lt-leb (up lowest + down d) (up d + down lowest) l)
+  abbrev read : ℤ
+  read = to_z w64 (of_z w64 d)
 
-  pub delta_rest : lt_z (to_z w64 (of_z w64 d)) lowest ≡ false → le_z (to_z w64 (of_z w64 d)) highest ≡ delta_in_range d
+  -- the lower end is tested first
+  pub delta_then : le_z lowest read ≡ true → le_z read highest ≡ delta_in_range d
   unfolding delta_in_range
-  delta_rest e =
-      let l = ltb-false (up d + down lowest) (up lowest + down d) (sym (less_parts d lowest) ∙ (rw (to_z-of_z w64 d h) at e)) in
-      rw (to_z-of_z w64 d h, most_parts lowest d, le-leb (up lowest + down d) (up d + down lowest) l)
+  delta_then e =
+      let z = to_z-of_z w64 d h in
+      ap (λ (x : ℤ). le_z x highest) z ∙ sym (ap (λ (b : Bool). b && le_z d highest) (sym (ap (le_z lowest) z) ∙ e))
+
+  pub delta_else : le_z lowest read ≡ false → le_z lowest read ≡ delta_in_range d
+  unfolding delta_in_range
+  delta_else e =
+      let z = to_z-of_z w64 d h in
+      e ∙ sym (ap (λ (b : Bool). b && le_z d highest) (sym (ap (le_z lowest) z) ∙ e))
 
 -- ---- the walk
 
@@ -60,23 +63,10 @@ pub record Fine (p : Pool) (ds : List ℤ) (s : ℕ) : Type 0 where
   pub within : s ≤ slot_count p
   pub none : (j : ℕ) → j < s → is_bad p ds j ≡ false
 
-pub fine_start : {p : Pool} {ds : List ℤ} → Fine p ds 0
-fine_start = record { within = omega arith; none = below_none _ }
-
-module _ {p : Pool} {ds : List ℤ} {s : ℕ} (h : Fine p ds s) (l : s < slot_count p) where
-  fine_more : is_bad p ds s ≡ false → Fine p ds (s + 1)
-  fine_more e = record { within = omega arith; none = below_more _ s h.none e }
-
-  -- a free slot, and one whose delta is in range
-  pub fine_free : occupied p s ≡ false → Fine p ds (s + 1)
-  fine_free e = fine_more (rw e)
-
-  pub fine_in : delta_in_range (get_or ds s (pos 0)) ≡ true → Fine p ds (s + 1)
-  fine_in e = fine_more (rw e (and-false (occupied p s)))
-
-  pub fine_bad : occupied p s ≡ true → delta_in_range (get_or ds s (pos 0)) ≡ false → true ≡ bad_delta p ds
-  unfolding bad_delta
-  fine_bad o e = sym (any_at (is_bad p ds) (slot_count p) 0 s (omega arith) (omega arith) (rw (o, e)))
+pub fine_bad : (p : Pool) (ds : List ℤ) {s : ℕ} → s < slot_count p → occupied p s ≡ true → delta_in_range (get_or ds s (pos 0)) ≡ false
+    → true ≡ bad_delta p ds
+unfolding bad_delta
+fine_bad p ds {s} l o e = sym (any_at (is_bad p ds) (slot_count p) 0 s (omega arith) (omega arith) (rw (o, e)))
 
 pub fine_done : {p : Pool} {ds : List ℤ} {s : ℕ} → Fine p ds s → slot_count p ≤ s → false ≡ bad_delta p ds
 unfolding bad_delta

@@ -3,8 +3,8 @@
 use Rattle.std.specs.Prelude.{ℕ, suc, Bool, cond, List, [], ◌∷◌, ◌++◌, map, get_or, ℤ, pos, ◌+ℤ◌}
 use Rattle.sorting.specs.Sorting.{sorted_by}
 use Rattle.feefrac.specs.declared.FeeFrac.{FeeFrac}
-use Rattle.feefrac.specs.declared.Ordering.{Ordering}
-use Rattle.feefrac.specs.declared.Ordering.TheVariants.{Less, Equal, Greater}
+use Rattle.std.specs.declared.cmp.Ordering.{Ordering}
+use Rattle.std.specs.declared.cmp.Ordering.TheVariants.{Less, Equal, Greater}
 use Rattle.feefrac.specs.Rate.{size_order, then_by, is_greater}
 use Rattle.feeset.specs.Total.{total}
 use Rattle.chunking.specs.Orders.{chunks_of}

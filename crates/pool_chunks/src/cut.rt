@@ -36,10 +36,9 @@ pub fn cut_all(
         listed.new starts.new fees.new sizes.new }
 {
     starts[0] = 0;
-    let mut count: usize = 0;
-    let mut c: usize = 0;
+    let mut count = 0;
     // The chunks of the first c clusters are written.
-    while c < clusters {
+    for c in 0..clusters {
         let from = bounds[c];
         let to = bounds[c + 1];
         let next = count + 1;
@@ -54,7 +53,6 @@ pub fn cut_all(
             &mut fees[count..],
             &mut sizes[count..],
         );
-        c += 1;
     }
     count
 }
@@ -99,7 +97,7 @@ fn cut_cluster(
     let mut order = [0usize; POSITIONS];
     let mut lens = [0usize; POSITIONS];
     gather_rates(table, deltas, members, &mut in_fees, &mut in_sizes);
-    gather_parents(members, ups, &mut parents);
+    pick(ups, members, &mut parents); // the parents, as positions
     let k = order_cluster(
         &in_fees[..n],
         &in_sizes[..n],
@@ -107,7 +105,7 @@ fn cut_cluster(
         &mut order,
         &mut lens,
     );
-    put_slots(members, &order[..n], listed);
+    pick(members, &order[..n], listed); // the slots
     put_ends(&lens[..k], from, ends);
     put_rates(
         &in_fees[..n],
@@ -148,27 +146,21 @@ fn gather_rates(
         ≡ overwrite (fees_of (pool_of table.now) deltas.now members.now) fees.old }
     ensures sizes_after { sizes.new ≡ overwrite (sizes_of (pool_of table.now) members.now) sizes.old }
 {
-    let mut i: usize = 0;
     // The first i are written.
-    while i < members.len() {
-        let s = members[i];
+    for (i, &s) in members.iter().enumerate() {
         slot_rate(table, deltas, s).put(fees, sizes, i);
-        i += 1;
     }
 }
 
-// The parents of a cluster's members, as positions.
-fn gather_parents(members: &[usize], ups: &[u64], parents: &mut [u64])
-    requires by_index { (i : ℕ) → i < length members.now → get_or members.now i 0 < length ups.now }
-    requires members_in_bounds { length members.now ≤ length parents.old }
-    ensures { parents.new ≡ overwrite (map (λ s. get_or ups.now s 0) members.now) parents.old }
+// What stands at these places of a list, in their order.
+fn pick<T: Copy>(from: &[T], places: &[usize], to: &mut [T])
+    requires by_index { (k : ℕ) → k < length places.now → get_or places.now k 0 < length from.now }
+    requires places_in_bounds { length places.now ≤ length to.old }
+    ensures { (d : T) → to.new ≡ overwrite (map (λ i. get_or from.now i d) places.now) to.old }
 {
-    let mut i: usize = 0;
-    // The first i are written.
-    while i < members.len() {
-        let s = members[i];
-        parents[i] = ups[s];
-        i += 1;
+    // The first k are written.
+    for (k, &i) in places.iter().enumerate() {
+        to[k] = from[i];
     }
 }
 
@@ -187,23 +179,8 @@ fn order_cluster(
     ensures lens_after { lens.new ≡ overwrite (cluster_chunks fees.now sizes.now parents.now) lens.old }
 {
     let n = fees.len();
-    linearize::linearize(fees, sizes, parents, order);
+    let _ = linearize::linearize(fees, sizes, parents, order); // what is required is what it asks
     chunking::order_lengths(fees, sizes, &order[..n], lens)
-}
-
-// The slots of a cluster's members in their order.
-fn put_slots(members: &[usize], order: &[usize], listed: &mut [usize])
-    requires by_index { (k : ℕ) → k < length order.now → get_or order.now k 0 < length members.now }
-    requires order_in_bounds { length order.now ≤ length listed.old }
-    ensures { listed.new ≡ overwrite (map (λ i. get_or members.now i 0) order.now) listed.old }
-{
-    let mut k: usize = 0;
-    // The first k are written.
-    while k < order.len() {
-        let i = order[k];
-        listed[k] = members[i];
-        k += 1;
-    }
 }
 
 // The places at which chunks of these lengths end, the first of which starts at `from`.
@@ -213,12 +190,10 @@ fn put_ends(lens: &[usize], from: usize, ends: &mut [usize])
     ensures { ends.new ≡ overwrite (ends_from from lens.now) ends.old }
 {
     let mut end = from;
-    let mut k: usize = 0;
     // The first k are written, the last of which is `end`.
-    while k < lens.len() {
-        end += lens[k];
+    for (k, &len) in lens.iter().enumerate() {
+        end += len;
         ends[k] = end;
-        k += 1;
     }
 }
 
@@ -239,13 +214,11 @@ fn put_rates(
     ensures sizes_after { sizes.new
         ≡ overwrite (size_sums in_fees.now in_sizes.now order.now lens.now) sizes.old }
 {
-    let mut from: usize = 0;
-    let mut k: usize = 0;
+    let mut from = 0;
     // The first k are written, the last of which ends at `from`.
-    while k < lens.len() {
-        let to = from + lens[k];
+    for (k, &len) in lens.iter().enumerate() {
+        let to = from + len;
         feeset::list_feerate(in_fees, in_sizes, &order[from..to]).put(fees, sizes, k);
         from = to;
-        k += 1;
     }
 }

@@ -1,24 +1,25 @@
-// The refusals that a table and its deltas get: 12, 1, 3 of document 01.
-ghost use Rattle.std.specs.Prelude.{◌≡◌, length};
-ghost use Rattle.refusals.specs.Refusals.{answer_of};
+// The refusals that deltas get on a table that stands: 1 and 3 of document 01.
+ghost use Rattle.std.specs.Prelude.{◌≡◌, true, length};
+ghost use Rattle.refusals.specs.Refusals.{answer_of, answer_from};
 ghost use Rattle.pool_table.specs.Pool.{slot_count};
 ghost use Rattle.pool_table.specs.Words.{pool_of};
 ghost use Rattle.pool_chunks.specs.Sorted.{delta_in_range, bad_delta, delta_refusals};
 
-// The first refusal; `stands` says whether the table does.
-pub fn refusal(table: &[u64], deltas: &[i64], stands: bool) -> u64
-    ensures { result ≡ answer_of (delta_refusals stands table.now deltas.now) }
+use refusals::Refusal;
+
+// The largest delta, either way.
+const MAX_DELTA: i64 = 2_100_000_000_000_000;
+
+pub fn check_deltas(table: &[u64], deltas: &[i64]) -> Result<(), Refusal>
+    ensures { answer_from result ≡ answer_of (delta_refusals true table.now deltas.now) }
 {
-    if !stands {
-        return refusals::TABLE_ILL_FORMED;
-    }
     if deltas.len() != pool_table::slots(table) {
-        return refusals::LENGTHS_DIFFER;
+        return Err(Refusal::LengthsDiffer);
     }
     if any_bad(table, deltas) {
-        return refusals::OUT_OF_RANGE;
+        return Err(Refusal::OutOfRange);
     }
-    0
+    Ok(())
 }
 
 // Whether some occupied slot has a delta outside its range. What the deltas of free slots are is of no account.
@@ -26,17 +27,11 @@ fn any_bad(table: &[u64], deltas: &[i64]) -> bool
     requires { length deltas.now ≡ slot_count (pool_of table.now) }
     ensures { result ≡ bad_delta (pool_of table.now) deltas.now }
 {
-    let n = pool_table::slots(table);
-    let mut s: usize = 0;
-    // No delta before s is bad.
-    while s < n {
-        if pool_table::is_occupied(table, s) {
-            let delta = deltas[s];
-            if !delta_in_range(delta) {
-                return true;
-            }
+    // No delta passed is bad.
+    for (s, &delta) in deltas.iter().enumerate() {
+        if pool_table::is_occupied(table, s) && !delta_in_range(delta) {
+            return true;
         }
-        s += 1;
     }
     false
 }
@@ -44,8 +39,5 @@ fn any_bad(table: &[u64], deltas: &[i64]) -> bool
 fn delta_in_range(delta: i64) -> bool
     ensures { result ≡ delta_in_range delta }
 {
-    if delta < -2_100_000_000_000_000 {
-        return false;
-    }
-    delta <= 2_100_000_000_000_000
+    -MAX_DELTA <= delta && delta <= MAX_DELTA
 }

@@ -3,31 +3,23 @@
 
 #![tactic(auto)]
 
-ghost use Rattle.std.specs.Prelude.{◌≡◌, true, [], ◌∷◌, ◌<◌, length};
+ghost use Rattle.std.specs.Prelude.{◌≡◌, [], ◌∷◌, ◌<◌, length, is_some, IfSome};
 ghost use Rattle.pool_table.specs.Pool.{slot_count};
 ghost use Rattle.pool_table.specs.Words.{pool_of};
 ghost use Rattle.pool_table.specs.WellFormed.{clusters_within};
-ghost use Rattle.pool_order.specs.Order.{slots_by_txid, stands_in};
+ghost use Rattle.pool_order.specs.Order.{slots_by_txid, roomy, stands_in};
 ghost use Rattle.pool_check.specs.Linked.{Linked};
 ghost use Rattle.pool_members.specs.Layout.{LaidOut};
 ghost use Rattle.pool_members.specs.Steps.{Ranked, Rooms};
 
 mod listing;
 mod parents;
-mod rooms;
 
-use slotsets::contains;
+use slotsets::{SET_WORDS, contains};
 
-// Whether a table stands and the rooms are wide enough, and how many clusters are laid out.
-#[derive(Clone, Copy)]
-pub struct Layout {
-    pub stands: bool,
-    pub count: usize,
-}
-
-// Lays out the clusters one after the other, by their least txids: the members of cluster k stand from bounds[k] to bounds[k + 1]. By
-// slot: firsts has the place where its cluster starts, and ups its parents as positions there. The other rooms are for what is needed
-// meanwhile. Where the table does not stand, or a room has no more places than it has slots, nothing is laid out.
+// Lays out the clusters one after the other, by their least txids, and says how many they are: the members of cluster k stand from bounds[k]
+// to bounds[k + 1]. By slot: firsts has the place where its cluster starts, and ups its parents as positions there. The other rooms are for
+// what is needed meanwhile. Where the table does not stand, or a room has no more places than it has slots, nothing is laid out.
 pub fn lay_out(
     table: &[u64],
     members: &mut [usize],
@@ -38,34 +30,25 @@ pub fn lay_out(
     places: &mut [usize],
     ups: &mut [u64],
     spare: &mut [u64],
-) -> Layout
-    ensures stands_value { result.stands ≡ stands_in table.now (length members.old ∷ length bounds.old
+) -> Option<usize>
+    ensures stands_value { is_some result ≡ stands_in table.now (length members.old ∷ length bounds.old
         ∷ length firsts.old ∷ length order.old ∷ length ranks.old ∷ length places.old
         ∷ length ups.old ∷ length spare.old ∷ []) }
-    ensures laid_out { result.stands ≡ true → LaidOut (pool_of table.now) result.count
-        members.new bounds.new firsts.new ups.new }
+    ensures laid_out { IfSome result (λ count. LaidOut (pool_of table.now) count
+        members.new bounds.new firsts.new ups.new) }
 {
-    let none = Layout {
-        stands: false,
-        count: 0,
-    };
-    let slots = pool_table::slots(table);
-    if !rooms::are_wide(
-        slots,
+    let lens = [
         members.len(),
         bounds.len(),
         firsts.len(),
         order.len(),
         ranks.len(),
         places.len(),
-    ) {
-        return none;
+    ];
+    if !are_wide(pool_table::slots(table), &lens) {
+        return None;
     }
-    let sorted = pool_check::sort_linked(table, ups, spare);
-    if !sorted.stands {
-        return none;
-    }
-    let n = sorted.count;
+    let n = pool_check::sort_linked(table, ups, spare)?;
     listing::unpack_all(&ups[..n], order);
     listing::rank_all(&order[..n], ranks);
     bounds[0] = 0;
@@ -81,6 +64,13 @@ pub fn lay_out(
     )
 }
 
+// Whether each of the rooms of these lengths has more places than n.
+fn are_wide(n: usize, lens: &[usize]) -> bool
+    ensures { result ≡ roomy n lens.now }
+{
+    lens.iter().all(|&len| n < len)
+}
+
 // Walks the slots by txid: one that was not seen in a cluster before has the least txid of its own. Each cluster is held against the limits as
 // it is found, so that none is searched for twice.
 fn lay_by_txid(
@@ -92,41 +82,29 @@ fn lay_by_txid(
     bounds: &mut [usize],
     firsts: &mut [usize],
     ups: &mut [u64],
-) -> Layout
+) -> Option<usize>
     requires linked { Linked table.now }
     requires order_value { order.now ≡ slots_by_txid (pool_of table.now) }
     requires table_in_bounds { (slot_count (pool_of table.now) < length ranks.now) × Ranked order.now ranks.now }
     requires rooms { Rooms (pool_of table.now) members.old bounds.old firsts.old ups.old places.old }
-    ensures stands_value { result.stands ≡ clusters_within (pool_of table.now) }
-    ensures laid_out { result.stands ≡ true → LaidOut (pool_of table.now) result.count
-        members.new bounds.new firsts.new ups.new }
+    ensures stands_value { is_some result ≡ clusters_within (pool_of table.now) }
+    ensures laid_out { IfSome result (λ count. LaidOut (pool_of table.now) count
+        members.new bounds.new firsts.new ups.new) }
 {
-    let mut seen = [0u64; 16];
-    let mut count: usize = 0;
-    let mut end: usize = 0;
-    let mut i: usize = 0;
-    // The clusters of the first i slots are laid out, in the first `end` places; `seen` has their members.
-    while i < order.len() {
-        let s = order[i];
-        i += 1;
+    let mut seen = [0u64; SET_WORDS];
+    let mut count = 0;
+    let mut end = 0;
+    // The clusters of the slots passed are laid out, in the first `end` places; `seen` has their members.
+    for &s in order {
         if contains(&seen, s) {
             continue;
         }
-        let k = listing::list_cluster(table, s, order, ranks, &mut seen, &mut members[end..]);
-        if k == 0 {
-            return Layout {
-                stands: false,
-                count: 0,
-            };
-        }
+        let k = listing::list_cluster(table, s, order, ranks, &mut seen, &mut members[end..])?;
         let next = end + k;
         parents::note_all(table, &members[end..next], end, places, firsts, ups);
         count += 1;
         end = next;
         bounds[count] = end;
     }
-    Layout {
-        stands: true,
-        count,
-    }
+    Some(count)
 }

@@ -9,7 +9,7 @@ ghost use Rattle.pool_members.specs.Steps.{StoredAt, Within, is_rank, Closed};
 
 use crate::listing::rank_all;
 use pool_table::Side;
-use slotsets::{CAPACITY, SET_WORDS, lowest, remove};
+use slotsets::{SET_WORDS, lowest, remove};
 use txset::TxSet;
 
 // Notes for each member its place in the cluster, where the cluster starts, and its parents.
@@ -31,13 +31,10 @@ pub fn note_all(
         ups.old ups.new }
 {
     rank_all(members, places);
-    let mut k: usize = 0;
-    while k < members.len() {
-        let s = members[k];
+    for &s in members {
         let above = parents_at(table, s, places);
         firsts[s] = first;
         ups[s] = above.word;
-        k += 1;
     }
 }
 
@@ -49,24 +46,19 @@ fn parents_at(table: &[u64], s: usize, places: &[usize]) -> TxSet
 {
     let mut left = parent_slots(table, s);
     let mut set = TxSet::empty();
-    loop {
-        let a = lowest(&left);
-        if CAPACITY <= a {
-            return set;
-        }
+    while let Some(a) = lowest(&left) {
         remove(&mut left, a);
         set = set.insert(places[a]);
     }
+    set
 }
 
-fn parent_slots(table: &[u64], s: usize) -> [u64; 16]
+fn parent_slots(table: &[u64], s: usize) -> [u64; SET_WORDS]
     ensures { (i : ℕ) → has_in result i ≡ has_in (slot_at (pool_of table.now) s).parents i }
 {
-    let mut set = [0u64; 16];
-    let mut j: usize = 0;
-    while j < SET_WORDS {
+    let mut set = [0u64; SET_WORDS];
+    for j in 0..SET_WORDS {
         set[j] = pool_table::link_word(table, Side::Parents, s, j);
-        j += 1;
     }
     set
 }

@@ -2,17 +2,21 @@
 use mathlib.Core.Path.{◌≡◌, refl, sym, ap, ap₂, ◌∙◌}
 use mathlib.Core.Bool.{Bool, true, false, cond, not, ◌||◌}
 use mathlib.Core.List.{List, [], ◌∷◌}
+use mathlib.Core.Logic.{⊎_elim}
+use Rattle.std.proofs.Common.{◌⊎◌, inl, inr, IfOk, Result, Ok, Err}
 use Prim.Native.Nat.{ℕ, ◌≤◌, ◌<◌}
 use native.Mathlib.Omega.{arith}
-use lib.Dec.{ltb}
+use lib.Dec.{eqb, ltb}
 use lib.ListN.{length, take}
 use lib.IntN.{ℤ}
 use borrow.Author.Tests.{eq-eqb, ne_eqb, lt-ltb, le-ltb, ltb-false, not-false}
 use Rattle.lists.proofs.Bools.{and_right, or_left, asked, cond_second}
 use Rattle.lists.specs.Lists.{overwrite}
 use Rattle.lists.proofs.Lists.{Each}
-use Rattle.refusals.specs.declared.Reply.{Reply}
-use Rattle.refusals.specs.Refusals.{differ, answer_of, refusal, success}
+use Rattle.refusals.specs.declared.Refusal.{Refusal}
+use Rattle.refusals.specs.declared.Refusal.TheVariants.{LengthsDiffer, TooManyMembers, OutOfRange, Cycle, NotAnOrder, TxidPresent, NoSlotFree, ClusterTooMany, ClusterTooLarge, TxidAbsent, RoomTooShort, TableIllFormed, InputIllFormed}
+use Rattle.refusals.proofs.Outcomes.{no_success}
+use Rattle.refusals.specs.Refusals.{number_of, differ, answer_of, refusal, success}
 use Rattle.refusals.proofs.Lines.{Past, Gives, Takes, none_past, past, stop, refuses, succeeds, keeps, writes}
 use Rattle.pool_table.specs.Pool.{slot_count, entries}
 use Rattle.pool_table.specs.Words.{is_legal, pool_of}
@@ -57,6 +61,12 @@ first_1 false false false e = absurd (omega arith)
 past_1 : (b c : Bool) → (from_one b c ≡ 1 → ⊥) → b ≡ false
 past_1 true c n = absurd (n refl)
 past_1 false c n = refl
+
+one_or_twelve : (a b c : Bool) → (from_twelve a b c ≡ 0 → ⊥) → (from_twelve a b c ≡ 3 → ⊥) → (from_twelve a b c ≡ 12) ⊎ (from_twelve a b c ≡ 1)
+one_or_twelve true b c n m = inl refl
+one_or_twelve false true c n m = inr refl
+one_or_twelve false false true n m = absurd (m refl)
+one_or_twelve false false false n m = absurd (n refl)
 
 -- what a call that refuses nothing was asked with
 pub parts_of : (t : List ℕ) (w : Settings) (room : List ℕ) → Takes (template_refusals t w room)
@@ -147,14 +157,13 @@ module _ (t : List ℕ) (w : Settings) (room : List ℕ) {k : ℕ} (e : k ≡ an
           unfolding template_refusals answer_of
           answer_rest = last ∙ sym past_room.same
 
-  -- where the call refuses nothing, neither did they
-  pub answer_none : Takes (template_refusals t w room) → k ≡ 0
-  answer_none takes =
-      let q = parts_of t w room takes in
-      number
-      ∙ ap (λ (b : Bool). from_twelve b longer bad) (ap not q.0)
-      ∙ ap (λ (b : Bool). from_one b bad) q.1
-      ∙ ap from_three q.3
+  -- a refusal but 3 is the call's
+  pub early : (k ≡ 0 → ⊥) → (k ≡ 3 → ⊥) → k ≡ answer_of (template_refusals t w room)
+  early n m =
+      ⊎_elim
+      (λ q. let twelve : k ≡ 12 = number ∙ q in twelve ∙ sym (gives_12 twelve).answer)
+      (λ q. let one : k ≡ 1 = number ∙ q in one ∙ sym (gives_1 (λ z. absurd (omega arith)) one).answer)
+      (one_or_twelve broken longer bad (λ z. n (number ∙ z)) (λ z. m (number ∙ z)))
 
 -- ---- a table that is well-formed
 
@@ -186,18 +195,51 @@ slots_few t h = omega (arith, few_slots t (well_legal t h))
 
 -- ---- what is answered
 
-module _ (t : List ℕ) (w : Settings) (room : List ℕ) {reply : Reply} where
+-- which answers go first
+abbrev pub goes_first : ℕ → Bool
+goes_first k = not (eqb k 0 || eqb k 3)
+
+pub those_first : (k : ℕ) → goes_first k ≡ true → (k ≡ 0 → ⊥) × (k ≡ 3 → ⊥)
+those_first k e =
+    (λ z. let clash : true ≡ false = sym e ∙ ap goes_first z in cc, λ z. let clash : true ≡ false = sym e ∙ ap goes_first z in cc)
+
+pub those_behind : (k : ℕ) → goes_first k ≡ false → (k ≡ 12 → ⊥) × (k ≡ 1 → ⊥)
+those_behind k e =
+    (λ z. let clash : false ≡ true = sym e ∙ ap goes_first z in cc, λ z. let clash : false ≡ true = sym e ∙ ap goes_first z in cc)
+
+pub behind : (r : Refusal) → (r ≡ OutOfRange → ⊥) → true ≡ goes_first (number_of r)
+behind r n = elim r as (λ (s : Refusal). (s ≡ OutOfRange → ⊥) → true ≡ goes_first (number_of s)) [
+  | LengthsDiffer ↦ λ n. refl
+  | TooManyMembers ↦ λ n. refl
+  | OutOfRange ↦ λ n. absurd (n refl)
+  | Cycle ↦ λ n. refl
+  | NotAnOrder ↦ λ n. refl
+  | TxidPresent ↦ λ n. refl
+  | NoSlotFree ↦ λ n. refl
+  | ClusterTooMany ↦ λ n. refl
+  | ClusterTooLarge ↦ λ n. refl
+  | TxidAbsent ↦ λ n. refl
+  | RoomTooShort ↦ λ n. refl
+  | TableIllFormed ↦ λ n. refl
+  | InputIllFormed ↦ λ n. refl
+] n
+
+pub own_count : (r : Result ℕ Refusal) → IfOk r (λ n. r ≡ Ok n)
+own_count (Ok n) = refl
+own_count (Err r) = tt
+
+module _ (t : List ℕ) (w : Settings) (room : List ℕ) where
   -- a refusal: nothing is written
-  pub answered_refused : {k : ℕ} → k ≡ answer_of (template_refusals t w room) → (k ≡ 0 → ⊥) → reply ≡ refusal k
-      → (reply ≡ template_reply t w room) × (room ≡ template_room t w room)
+  pub answered_refused : (r : Refusal) → number_of r ≡ answer_of (template_refusals t w room)
+      → (refusal (number_of r) ≡ template_reply t w room) × (room ≡ template_room t w room)
   unfolding template_reply template_room
-  answered_refused {k} told some e =
-      let g : Gives (template_refusals t w room) k = record { answer = sym told; number = ne_eqb k 0 some } in
-      (refuses refusal _ g e, keeps room _ g)
+  answered_refused r told =
+      let g : Gives (template_refusals t w room) (number_of r) = record { answer = sym told; number = ne_eqb (number_of r) 0 (no_success r) } in
+      (refuses refusal _ g refl, keeps room _ g)
 
   -- the template, at the room's start
   pub answered_filled : {n : ℕ} {picked out : List ℕ} → Takes (template_refusals t w room) → Filled (template (pool_of t) w) picked n
-      → reply ≡ success n → out ≡ overwrite (take n picked) room → (reply ≡ template_reply t w room) × (out ≡ template_room t w room)
+      → out ≡ overwrite (take n picked) room → (success n ≡ template_reply t w room) × (out ≡ template_room t w room)
   unfolding template_reply template_room
-  answered_filled takes f e o =
-      (succeeds refusal _ takes (e ∙ ap success f.count), writes room _ takes (o ∙ ap (λ (l : List ℕ). overwrite l room) f.are))
+  answered_filled takes f o =
+      (succeeds refusal _ takes (ap success f.count), writes room _ takes (o ∙ ap (λ (l : List ℕ). overwrite l room) f.are))

@@ -1,6 +1,7 @@
--- Laws of the walks over some slots: whether one has a property, whether all have it, and their sums. Assumes nothing.
-use mathlib.Core.Path.{◌≡◌, sym, ap, ap₂, ◌∙◌}
-use mathlib.Core.Bool.{Bool, true, false, ◌&&◌, ◌||◌}
+-- Laws of what is asked of some slots: whether one has a property, whether all have it, and their sums. Assumes nothing.
+use Rattle.std.specs.List.{list_any, list_all}
+use mathlib.Core.Path.{◌≡◌, refl, sym, ap, ap₂, ◌∙◌}
+use mathlib.Core.Bool.{Bool, true, ◌&&◌, ◌||◌}
 use mathlib.Core.List.{List, [], ◌∷◌}
 use Prim.Native.Nat.{ℕ, ◌+◌, ◌*◌, ◌≤◌, ◌<◌, min}
 use native.Mathlib.Numerals.{add-one}
@@ -23,39 +24,17 @@ use Rattle.template.specs.declared.tests.Used.{Used}
 use Rattle.template.specs.Selecting.{Occupied}
 use Rattle.template.specs.Trying.{sums_of}
 
--- ---- one of them, or all: what was passed says nothing
+-- ---- one of them, or all, as std asks it of a list
 
-module _ (f : ℕ → Bool) (l : List ℕ) (i : ℕ) (e : any_of f l ≡ any_of f (drop i l)) where
-  module _ (h : i < length l) where
-    any_next : any_of f l ≡ (f (get_or l i 0) || any_of f (drop (i + 1) l))
-    unfolding any_of
-    any_next = e ∙ ap (any_of f) (drop-cons l i 0 h) ∙ ap (λ (k : ℕ). f (get_or l i 0) || any_of f (drop k l)) (sym (add-one i))
+pub any_list : (f : ℕ → Bool) (l : List ℕ) → list_any f l ≡ any_of f l
+unfolding any_of
+any_list f [] = refl
+any_list f (x ∷ l) = ap (λ (b : Bool). f x || b) (any_list f l)
 
-    pub any_yes : f (get_or l i 0) ≡ true → true ≡ any_of f l
-    any_yes t = sym (any_next ∙ ap (λ (b : Bool). b || any_of f (drop (i + 1) l)) t)
-
-    pub any_not_yet : f (get_or l i 0) ≡ false → any_of f l ≡ any_of f (drop (i + 1) l)
-    any_not_yet t = any_next ∙ ap (λ (b : Bool). b || any_of f (drop (i + 1) l)) t
-
-  pub any_no : length l ≤ i → false ≡ any_of f l
-  unfolding any_of
-  any_no h = sym (e ∙ ap (any_of f) (drop_of_length-le l h))
-
-module _ (f : ℕ → Bool) (l : List ℕ) (i : ℕ) (e : all_of f l ≡ all_of f (drop i l)) where
-  module _ (h : i < length l) where
-    all_next : all_of f l ≡ (f (get_or l i 0) && all_of f (drop (i + 1) l))
-    unfolding all_of
-    all_next = e ∙ ap (all_of f) (drop-cons l i 0 h) ∙ ap (λ (k : ℕ). f (get_or l i 0) && all_of f (drop k l)) (sym (add-one i))
-
-    pub all_no : f (get_or l i 0) ≡ false → false ≡ all_of f l
-    all_no t = sym (all_next ∙ ap (λ (b : Bool). b && all_of f (drop (i + 1) l)) t)
-
-    pub all_so_far : f (get_or l i 0) ≡ true → all_of f l ≡ all_of f (drop (i + 1) l)
-    all_so_far t = all_next ∙ ap (λ (b : Bool). b && all_of f (drop (i + 1) l)) t
-
-  pub all_yes : length l ≤ i → true ≡ all_of f l
-  unfolding all_of
-  all_yes h = sym (e ∙ ap (all_of f) (drop_of_length-le l h))
+pub all_list : (f : ℕ → Bool) (l : List ℕ) → list_all f l ≡ all_of f l
+unfolding all_of
+all_list f [] = refl
+all_list f (x ∷ l) = ap (λ (b : Bool). f x && b) (all_list f l)
 
 -- ---- sums
 

@@ -16,9 +16,8 @@ use Rattle.lists.proofs.Bools.{and_both, asked}
 use Rattle.lists.proofs.Lists.{elem_head, elem_tail, elem_snoc, in_snoc, distinct_snoc}
 use Rattle.lists.proofs.Once.{once_missing}
 use Rattle.txset.specs.declared.TxSet.{TxSet}
-use Rattle.txset.specs.Sets.{has_in, mem, members, is_empty, lowest_of, set_at}
+use Rattle.txset.specs.Sets.{has_in, mem, members, set_at}
 use Rattle.txset.proofs.Sets.{members_elem}
-use Rattle.txset.proofs.Walk.{lowest_mem, walk_step, walk_done}
 use Rattle.slotsets.specs.SlotSets.{span}
 use Rattle.pool_table.specs.Pool.{Pool, slot_count, occupied}
 use Rattle.pool_table.specs.Links.{is_parent}
@@ -37,10 +36,6 @@ use Rattle.template.specs.Selecting.{Occupied, Laid, Selected}
 -- the member of the cluster of s at a position
 abbrev pub member_at : List ℕ → List ℕ → ℕ → ℕ → ℕ
 member_at flat firsts s j = get_or flat (get_or firsts s 0 + j) 0
-
--- the members at some positions
-abbrev pub members_at : List ℕ → List ℕ → ℕ → TxSet → List ℕ
-members_at flat firsts s set = map (member_at flat firsts s) (members set)
 
 map_each : (f g : ℕ → ℕ) (xs : List ℕ) → ((x : ℕ) → elem x xs ≡ true → f x ≡ g x) → map f xs ≡ map g xs
 map_each f g [] h = refl
@@ -88,7 +83,7 @@ module _ {p : Pool} {flat firsts ups : List ℕ} (h : Laid p flat firsts ups) (s
     named_parent : is_parent p s (member_at flat firsts s j) ≡ true
     named_parent = rw (place_is j named.0) named.1
 
-  named_all : members_at flat firsts s (set_at ups s) ≡ parents_by_txid p s
+  named_all : map (member_at flat firsts s) (members (set_at ups s)) ≡ parents_by_txid p s
   unfolding parents_by_txid
   named_all =
       map_each (member_at flat firsts s) (λ j. get_or (members_of p s) j 0) (members (set_at ups s))
@@ -124,66 +119,67 @@ collect_none {p} {out} {taken} {picked} {n} g s e =
 -- ---- a slot's parents, one after the other
 
 -- what is selected, and then the parents left, is what all parents make of `old`
-pub record Climbing (p : Pool) (flat firsts ups : List ℕ) (s : ℕ) (old : List ℕ) (left : TxSet) (taken picked : List ℕ) (end : ℕ) : Type 0 where
+pub record Climbing (p : Pool) (flat firsts ups : List ℕ) (s : ℕ) (old left taken picked : List ℕ) (end : ℕ) : Type 0 where
   pub held : Selected p (take end picked) taken picked end
-  pub rest : each_in_turn (collect p (slot_count p)) (take end picked) (members_at flat firsts s left)
+  pub rest : each_in_turn (collect p (slot_count p)) (take end picked) (map (member_at flat firsts s) left)
       ≡ each_in_turn (collect p (slot_count p)) old (parents_by_txid p s)
-  pub parents : (j : ℕ) → mem left j ≡ true → mem (set_at ups s) j ≡ true
+  pub parents : (j : ℕ) → elem j left ≡ true → mem (set_at ups s) j ≡ true
   pub grows : length old ≤ end
 
 module _ {p : Pool} {flat firsts ups : List ℕ} (h : Laid p flat firsts ups) (s : ℕ) (o : occupied p s ≡ true) where
   pub climb_start : {taken picked : List ℕ} {n : ℕ} → Selected p (take n picked) taken picked n
-      → Climbing p flat firsts ups s (take n picked) (set_at ups s) taken picked n
+      → Climbing p flat firsts ups s (take n picked) (members (set_at ups s)) taken picked n
   climb_start {taken} {picked} {n} g =
       record {
         held = g;
         rest = ap (each_in_turn (collect p (slot_count p)) (take n picked)) (named_all h s o);
-        parents = λ j e. e;
+        parents = λ j e. sym (members_elem (set_at ups s) j) ∙ e;
         grows = omega (arith, g.count);
       }
 
-  module _ {old : List ℕ} {left : TxSet} {taken picked : List ℕ} {end : ℕ} (c : Climbing p flat firsts ups s old left taken picked end) where
-    -- the next parent: where it stands, and that it is one
-    module _ (e : is_empty left ≡ false) where
-      pub climb_within : get_or firsts s 0 + lowest_of left < length flat
-      climb_within = named_within h s o (lowest_of left) (c.parents (lowest_of left) (lowest_mem left e))
+  module _ {old left : List ℕ} {taken picked : List ℕ} {end : ℕ} (c : Climbing p flat firsts ups s old left taken picked end) where
+    module _ {j : ℕ} {next : List ℕ} (e : left ≡ j ∷ next) where
+      -- the next parent: where it stands, and that it is one
+      is_named : mem (set_at ups s) j ≡ true
+      is_named = c.parents j (ap (elem j) e ∙ elem_head j next)
 
-      pub climb_parent : is_parent p s (member_at flat firsts s (lowest_of left)) ≡ true
-      climb_parent = named_parent h s o (lowest_of left) (c.parents (lowest_of left) (lowest_mem left e))
+      pub climb_within : get_or firsts s 0 + j < length flat
+      climb_within = named_within h s o j is_named
 
-    pub climb_turn : is_empty left ≡ false → (next : TxSet) → ((i : ℕ) → mem next i ≡ (mem left i && not (eqb i (lowest_of left))))
-        → {taken' picked' : List ℕ} {r : ℕ}
-        → Selected p (collect p (slot_count p) (take end picked) (member_at flat firsts s (lowest_of left))) taken' picked' r
-        → Climbing p flat firsts ups s old next taken' picked' r
-    unfolding each_in_turn
-    climb_turn e next w {taken'} {picked'} {r} g =
-        let f = collect p (slot_count p) in
-        record {
-          held = selected_own g;
-          rest =
-              ap (λ (l : List ℕ). each_in_turn f l (members_at flat firsts s next)) g.are
-              ∙ ap (λ (l : List ℕ). each_in_turn f (take end picked) (map (member_at flat firsts s) l)) (sym (walk_step left next w e))
-              ∙ c.rest;
-          parents = λ j m. c.parents j (and_both (mem left j) _ (sym (w j) ∙ m)).0;
-          grows =
-              omega (
-                arith,
-                g.count,
-                c.grows,
-                c.held.count,
-                starts_length (collect_starts p (slot_count p) (take end picked) (member_at flat firsts s (lowest_of left))),
-              );
-        }
+      pub climb_parent : is_parent p s (member_at flat firsts s j) ≡ true
+      climb_parent = named_parent h s o j is_named
+
+      pub climb_turn : {taken' picked' : List ℕ} {r : ℕ} → Selected p (collect p (slot_count p) (take end picked) (member_at flat firsts s j)) taken' picked' r
+          → Climbing p flat firsts ups s old next taken' picked' r
+      unfolding each_in_turn
+      climb_turn g =
+          let f = collect p (slot_count p) in
+          record {
+            held = selected_own g;
+            rest =
+                ap (λ (l : List ℕ). each_in_turn f l (map (member_at flat firsts s) next)) g.are
+                ∙ ap (λ (l : List ℕ). each_in_turn f (take end picked) (map (member_at flat firsts s) l)) (sym e)
+                ∙ c.rest;
+            parents = λ i m. c.parents i (ap (elem i) e ∙ elem_tail i j next m);
+            grows =
+                omega (
+                  arith,
+                  g.count,
+                  c.grows,
+                  c.held.count,
+                  starts_length (collect_starts p (slot_count p) (take end picked) (member_at flat firsts s j)),
+                );
+          }
 
     -- all parents are selected, and s is none of what was
-    module _ (e : is_empty left ≡ true) {taken₀ picked₀ : List ℕ} {n : ℕ} (g : Selected p old taken₀ picked₀ n) (new : has_in taken₀ s ≡ false) where
+    module _ (e : left ≡ []) {taken₀ picked₀ : List ℕ} {n : ℕ} (g : Selected p old taken₀ picked₀ n) (new : has_in taken₀ s ≡ false) where
       whole : collect p (slot_count p) old s ≡ take end picked ++ (s ∷ [])
       unfolding each_in_turn
       whole =
           collect_step p (laid_sound h) (slot_count p) old s (occupied_in p s o) (ancestors_few p s) (sym (g.member s) ∙ new)
           ∙ ap (λ (l : List ℕ). l ++ (s ∷ []))
           (sym c.rest
-          ∙ ap (λ (l : List ℕ). each_in_turn (collect p (slot_count p)) (take end picked) (map (member_at flat firsts s) l)) (walk_done left e))
+          ∙ ap (λ (l : List ℕ). each_in_turn (collect p (slot_count p)) (take end picked) (map (member_at flat firsts s) l)) e)
 
       chosen : Chosen p (collect p (slot_count p) old s)
       chosen =

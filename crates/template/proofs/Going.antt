@@ -40,7 +40,7 @@ use Rattle.template.proofs.Collecting.{chosen_few}
 
 -- the number of the k-th that is tried, and its slots
 abbrev pub number_at : Arrays → ℕ → ℕ
-number_at r k = get_or r.order k 0
+number_at r k = get_or (take r.count r.order) k 0
 
 abbrev pub slots_at : Arrays → ℕ → List ℕ
 slots_at r c = take (get_or r.starts (c + 1) 0 - get_or r.starts c 0) (drop (get_or r.starts c 0) r.listed)
@@ -63,7 +63,10 @@ module _ (p : Pool) (ds : List ℤ) {r : Arrays} (s : Sorted p ds r) where
 
   module _ (k : ℕ) (l : k < r.count) where
     below : number_at r k < length (all_chunks p ds)
-    below = omega (arith, s.within k l, s.count)
+    below = omega (arith, s.within k l, s.count, get_or-take r.count r.order k 0 l)
+
+    pub number_few : number_at r k < r.count
+    number_few = omega (arith, below, s.count)
 
     part : number_at r k < length (slot_lists (all_chunks p ds))
     part = omega (arith, below, length-map (all_chunks p ds) (λ c. c.slots))
@@ -94,7 +97,6 @@ module _ (p : Pool) (ds : List ℤ) {r : Arrays} (s : Sorted p ds r) where
         let ks = take r.count r.order in
         ap (λ (cs : List PoolChunk). get_or cs k no_chunk) (sym s.sorted)
         ∙ get_d_map (chunk_at (all_chunks p ds)) ks k 0 no_chunk (omega (arith, numbers_long, length-take r.count r.order))
-        ∙ ap (chunk_at (all_chunks p ds)) (get_or-take r.count r.order k 0 l)
 
     slots_are : slots_at r (number_at r k) ≡ (get_or (tried p ds) k no_chunk).slots
     slots_are =
@@ -105,7 +107,7 @@ module _ (p : Pool) (ds : List ℤ) {r : Arrays} (s : Sorted p ds r) where
         ∙ ap (λ (x : PoolChunk). x.slots) (sym tried_at)
 
     rate_is : rate_at r.fees r.sizes (number_at r k) ≡ (get_or (tried p ds) k no_chunk).rate
-    rate_is = s.rates (number_at r k) (s.within k l) ∙ ap (λ (x : PoolChunk). x.rate) (sym tried_at)
+    rate_is = s.rates (number_at r k) number_few ∙ ap (λ (x : PoolChunk). x.rate) (sym tried_at)
 
     pub slots_held : Occupied p (slots_at r (number_at r k))
     slots_held =

@@ -32,12 +32,9 @@ fn collect_selected_with_ancestors(
         return n;
     }
     let first = firsts[s];
-    let mut left = TxSet::at(ups, s);
     let mut end = n;
-    // The parents passed are selected, each behind its own ancestors; `left` has the others.
-    while !left.is_empty() {
-        let j = left.lowest();
-        left = left.without_lowest();
+    // The parents passed are selected, each behind its own ancestors.
+    for j in TxSet::at(ups, s).iter() {
         let parent = members[first + j];
         end = collect_selected_with_ancestors(
             table, members, firsts, ups, taken, picked, end, parent,
@@ -66,14 +63,11 @@ pub fn collect_all(
         taken.new picked.new result }
 {
     let mut end = n;
-    let mut i: usize = 0;
-    // The first i are selected.
-    while i < slots.len() {
-        let slot = slots[i];
+    // Those passed are selected.
+    for &slot in slots {
         end = collect_selected_with_ancestors(
             table, members, firsts, ups, taken, picked, end, slot,
         );
-        i += 1;
     }
     end
 }

@@ -4,9 +4,8 @@
 
 #![tactic(auto)]
 
-ghost use Rattle.std.specs.Prelude.{◌≡◌, List, [], ◌∷◌, ◌≤◌, ◌<◌, length, ℤ};
-ghost use Rattle.lists.specs.Lists.{overwrite};
-ghost use Rattle.refusals.specs.Refusals.{answer_of};
+ghost use Rattle.std.specs.Prelude.{◌≡◌, Ok, true, not, ◌||◌, eqb, IfOk, List, [], ◌∷◌, ◌≤◌, ◌<◌, length, ℤ};
+ghost use Rattle.refusals.specs.Refusals.{answer_of, reply_from, answer_from};
 ghost use Rattle.pool_table.specs.Pool.{slot_count};
 ghost use Rattle.pool_table.specs.Words.{pool_of};
 ghost use Rattle.pool_table.specs.WellFormed.{well_formed};
@@ -19,7 +18,7 @@ mod collect;
 mod tests;
 
 use feefrac::FeeFrac;
-use refusals::Reply;
+use refusals::Refusal;
 use template_rules::Terms;
 use tests::{Outcome, Turn, Used};
 
@@ -33,66 +32,40 @@ pub fn template(
     marks: &[u8],
     terms: Terms,
     room: &mut [usize],
-) -> Reply
-    ensures value { result ≡ template_reply table.now (settings deltas.now marks.now terms) room.old }
+) -> Result<usize, Refusal>
+    ensures value { reply_from result ≡ template_reply table.now (settings deltas.now marks.now terms) room.old }
     ensures room_after { room.new
         ≡ template_room table.now (settings deltas.now marks.now terms) room.old }
 {
     if pool_table::slots(table) <= FEW {
-        return of_few(table, deltas, marks, terms, room);
+        return in_arrays::<65>(table, deltas, marks, terms, room);
     }
-    of_many(table, deltas, marks, terms, room)
+    in_arrays::<1025>(table, deltas, marks, terms, room)
 }
 
-// The same, with arrays for up to 64 slots.
-fn of_few(table: &[u64], deltas: &[i64], marks: &[u8], terms: Terms, room: &mut [usize]) -> Reply
-    requires { slot_count (pool_of table.now) ≤ 64 }
-    ensures value { result ≡ template_reply table.now (settings deltas.now marks.now terms) room.old }
+// The same in arrays of N places: one for each slot, and one more.
+fn in_arrays<const N: usize>(
+    table: &[u64],
+    deltas: &[i64],
+    marks: &[u8],
+    terms: Terms,
+    room: &mut [usize],
+) -> Result<usize, Refusal>
+    requires wide { well_formed table.now ≡ true → slot_count (pool_of table.now) < N }
+    requires few { N ≤ 1025 }
+    ensures value { reply_from result ≡ template_reply table.now (settings deltas.now marks.now terms) room.old }
     ensures room_after { room.new
         ≡ template_room table.now (settings deltas.now marks.now terms) room.old }
 {
-    let mut members = [0usize; 65];
-    let mut bounds = [0usize; 65];
-    let mut firsts = [0usize; 65];
-    let mut listed = [0usize; 65];
-    let mut starts = [0usize; 65];
-    let mut order = [0usize; 65];
-    let mut ups = [0u64; 65];
-    let mut sizes = [0u64; 65];
-    let mut fees = [0i64; 65];
-    select_block_template(
-        table,
-        deltas,
-        marks,
-        terms,
-        room,
-        &mut members,
-        &mut bounds,
-        &mut firsts,
-        &mut listed,
-        &mut starts,
-        &mut order,
-        &mut ups,
-        &mut sizes,
-        &mut fees,
-    )
-}
-
-// The same, with arrays for as many slots as a table can have.
-fn of_many(table: &[u64], deltas: &[i64], marks: &[u8], terms: Terms, room: &mut [usize]) -> Reply
-    ensures value { result ≡ template_reply table.now (settings deltas.now marks.now terms) room.old }
-    ensures room_after { room.new
-        ≡ template_room table.now (settings deltas.now marks.now terms) room.old }
-{
-    let mut members = [0usize; 1025];
-    let mut bounds = [0usize; 1025];
-    let mut firsts = [0usize; 1025];
-    let mut listed = [0usize; 1025];
-    let mut starts = [0usize; 1025];
-    let mut order = [0usize; 1025];
-    let mut ups = [0u64; 1025];
-    let mut sizes = [0u64; 1025];
-    let mut fees = [0i64; 1025];
+    let mut members = [0usize; N];
+    let mut bounds = [0usize; N];
+    let mut firsts = [0usize; N];
+    let mut listed = [0usize; N];
+    let mut starts = [0usize; N];
+    let mut order = [0usize; N];
+    let mut ups = [0u64; N];
+    let mut sizes = [0u64; N];
+    let mut fees = [0i64; N];
     select_block_template(
         table,
         deltas,
@@ -128,58 +101,56 @@ fn select_block_template(
     ups: &mut [u64],
     sizes: &mut [u64],
     fees: &mut [i64],
-) -> Reply
+) -> Result<usize, Refusal>
     requires { Wide table.now (length fees.old ∷ length members.old ∷ length bounds.old ∷ length firsts.old ∷ length listed.old
         ∷ length starts.old ∷ length order.old ∷ length ups.old ∷ length sizes.old ∷ []) }
-    ensures value { result ≡ template_reply table.now (settings deltas.now marks.now terms) room.old }
+    ensures value { reply_from result ≡ template_reply table.now (settings deltas.now marks.now terms) room.old }
     ensures room_after { room.new
         ≡ template_room table.now (settings deltas.now marks.now terms) room.old }
 {
-    let cut = pool_chunks::all_chunks(
+    let made = pool_chunks::all_chunks(
         table, deltas, members, bounds, firsts, listed, starts, order, ups, sizes, fees,
     );
-    let answer = refusal(table, marks, room, cut.answer);
-    if answer != 0 {
-        return Reply::refused(answer);
-    }
+    let count = checked(table, marks, room, made)?;
     let n = fill(
-        table, marks, terms, cut.count, members, firsts, ups, listed, starts, fees, sizes, order,
+        table, marks, terms, count, members, firsts, ups, listed, starts, fees, sizes, order,
         bounds,
     );
-    write_out(&bounds[..n], room);
-    Reply::wrote(n)
+    room[..n].copy_from_slice(&bounds[..n]);
+    Ok(n)
 }
 
-// The call's refusal, by the one that the table and the deltas get by themselves. Of the room only its length is asked.
-fn refusal(table: &[u64], marks: &[u8], room: &[usize], answer: u64) -> u64
-    ensures { (ds : List ℤ) (terms : Terms) → answer ≡ answer_of (delta_refusals (well_formed table.now) table.now ds)
-        → result ≡ answer_of (template_refusals table.now (settings ds marks.now terms) room.now) }
+// How many chunks there are, or the call's refusal, by what the table and the deltas come to by themselves. Of the room only its length is
+// asked.
+fn checked(
+    table: &[u64],
+    marks: &[u8],
+    room: &[usize],
+    made: Result<usize, Refusal>,
+) -> Result<usize, Refusal>
+    ensures told { (ds : List ℤ) (terms : Terms) → answer_from made ≡ answer_of (delta_refusals (well_formed table.now) table.now ds)
+        → answer_from result ≡ answer_of (template_refusals table.now (settings ds marks.now terms) room.now) }
+    ensures kept { IfOk result (λ n. made ≡ Ok n) }
 {
-    if answer == refusals::TABLE_ILL_FORMED {
-        return answer;
-    }
-    if answer == refusals::LENGTHS_DIFFER {
-        return answer;
+    if goes_first(made) {
+        return made;
     }
     if marks.len() != pool_table::slots(table) {
-        return refusals::LENGTHS_DIFFER;
+        return Err(Refusal::LengthsDiffer);
     }
     if room.len() < pool_rules::count_entries(table) {
-        return refusals::ROOM_TOO_SHORT;
+        return Err(Refusal::RoomTooShort);
     }
-    answer
+    made
 }
 
-// A list written to the room's start.
-fn write_out(picked: &[usize], room: &mut [usize])
-    requires { length picked.now ≤ length room.old }
-    ensures { room.new ≡ overwrite picked.now room.old }
+// Whether it is refused before the marks and the room are asked about: a delta out of its range is refused behind them.
+fn goes_first(made: Result<usize, Refusal>) -> bool
+    ensures { result ≡ not (eqb (answer_from made) 0 || eqb (answer_from made) 3) }
 {
-    let mut i: usize = 0;
-    // The first i are written.
-    while i < picked.len() {
-        room[i] = picked[i];
-        i += 1;
+    match made {
+        Ok(_) | Err(Refusal::OutOfRange) => false,
+        Err(_) => true,
     }
 }
 
@@ -208,13 +179,10 @@ fn fill(
 {
     let mut taken = [0u64; 16];
     let mut used = Used::nothing();
-    let mut k: usize = 0;
-    // The first k chunks were tried; `taken` has what is selected.
-    while k < count {
-        let c = order[k];
+    // The chunks passed were tried; `taken` has what is selected.
+    for &c in &order[..count] {
         let from = starts[c];
         let to = starts[c + 1];
-        k += 1;
         let rate = FeeFrac::at(fees, sizes, c);
         let turn = Turn { terms, rate, used };
         let mut trial = taken;

@@ -27,6 +27,7 @@ pub struct Used {
 }
 
 // A chunk is taken, with what is selected then, or passed over.
+// stays: document 01 names this form ("an enum outcome whose Passed case holds a reason enum").
 #[derive(Clone, Copy)]
 pub enum Outcome {
     Taken(Used),
@@ -66,42 +67,14 @@ fn is_withheld(marks: &[u8], s: usize) -> bool
 pub fn any_withheld(marks: &[u8], slots: &[usize]) -> bool
     ensures { result ≡ any_of (withheld marks.now) slots.now }
 {
-    let mut i: usize = 0;
-    // None of the first i is withheld.
-    while i < slots.len() {
-        let s = slots[i];
-        if is_withheld(marks, s) {
-            return true;
-        }
-        i += 1;
-    }
-    false
+    slots.iter().any(|&s| is_withheld(marks, s))
 }
 
 // Whether each of the slots is in the set.
 pub fn all_taken(taken: &[u64], slots: &[usize]) -> bool
     ensures { result ≡ all_of (has_in taken.now) slots.now }
 {
-    let mut i: usize = 0;
-    // The first i are in it.
-    while i < slots.len() {
-        let s = slots[i];
-        if !contains(taken, s) {
-            return false;
-        }
-        i += 1;
-    }
-    true
-}
-
-// The sum, held at 2^64 - 1.
-fn held_sum(a: u64, b: u64) -> u64
-    ensures { result ≡ min (a + b) most }
-{
-    if u64::MAX - b < a {
-        return u64::MAX;
-    }
-    a + b
+    slots.iter().all(|&s| contains(taken, s))
 }
 
 // Some slots in sums. Raw weights are small in a sound pool, so that their sum fits; a sigop cost can be any.
@@ -112,13 +85,11 @@ pub fn sum_slots(table: &[u64], slots: &[usize]) -> Used
 {
     let mut weight: u64 = 0;
     let mut cost: u64 = 0;
-    let mut i: usize = 0;
-    // The sums of the first i.
-    while i < slots.len() {
-        let entry = Entry::at(table, slots[i]);
+    // The sums of those passed.
+    for &s in slots {
+        let entry = Entry::at(table, s);
         weight += entry.weight.0;
-        cost = held_sum(cost, entry.cost);
-        i += 1;
+        cost = cost.saturating_add(entry.cost);
     }
     Used {
         count: slots.len(),

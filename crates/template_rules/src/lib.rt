@@ -14,7 +14,7 @@ pub struct Terms {
 }
 
 // Why a chunk is passed over, in the order of the document.
-#[derive(Clone, Copy)]
+#[derive(Clone, Copy, PartialEq, Eq)]
 pub enum Reason {
     NegativeFee,
     BelowMinimum,

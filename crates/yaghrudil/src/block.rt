@@ -15,6 +15,18 @@ pub struct Terms {
     pub minimum: u64,
 }
 
+impl From<Terms> for template_rules::Terms {
+    ghost from_gives = { λ terms r. r ≡ terms_of terms };
+
+    fn from(terms: Terms) -> template_rules::Terms {
+        template_rules::Terms {
+            budget: RawWeight(terms.budget),
+            reserve: terms.reserve,
+            minimum: terms.minimum,
+        }
+    }
+}
+
 #[unsafe(no_mangle)]
 pub extern "C" fn yaghrudil_pool_template(
     table: &[u64],
@@ -26,10 +38,5 @@ pub extern "C" fn yaghrudil_pool_template(
     ensures value { result ≡ template_reply table.now (settings deltas.now withheld.now (terms_of terms)) room.old }
     ensures room_after { room.new ≡ template_room table.now (settings deltas.now withheld.now (terms_of terms)) room.old }
 {
-    let given = template_rules::Terms {
-        budget: RawWeight(terms.budget),
-        reserve: terms.reserve,
-        minimum: terms.minimum,
-    };
-    template::template(table, deltas, withheld, given, room)
+    template::template(table, deltas, withheld, terms.into(), room).into()
 }

@@ -9,5 +9,5 @@ pub extern "C" fn yaghrudil_chunk_lengths(fees: &[i64], sizes: &[u64], room: &mu
     ensures value { result ≡ reply fees.now sizes.now room.old }
     ensures room_after { room.new ≡ room_after fees.now sizes.now room.old }
 {
-    chunking::chunk_lengths(fees, sizes, room)
+    chunking::chunk_lengths(fees, sizes, room).into()
 }

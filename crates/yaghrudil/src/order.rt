@@ -14,5 +14,5 @@ pub extern "C" fn yaghrudil_linearize(
     ensures value { result ≡ reply fees.now sizes.now parents.now room.old }
     ensures room_after { room.new ≡ room_after fees.now sizes.now parents.now room.old }
 {
-    linearize::linearize(fees, sizes, parents, room)
+    linearize::linearize(fees, sizes, parents, room).into()
 }

@@ -16,17 +16,24 @@ pub struct Limits {
     pub bytes_per_sigop: u64,
 }
 
+impl From<Limits> for pool_table::Limits {
+    ghost from_gives = { λ limits r. r ≡ limits_of limits };
+
+    fn from(limits: Limits) -> pool_table::Limits {
+        pool_table::Limits {
+            count: limits.count,
+            size: limits.size,
+            bytes_per_sigop: limits.bytes_per_sigop,
+        }
+    }
+}
+
 #[unsafe(no_mangle)]
 pub extern "C" fn yaghrudil_pool_make(table: &mut [u64], limits: Limits) -> u64
     ensures value { result ≡ make_answer table.old (limits_of limits) }
     ensures table_after { table.new ≡ after_make table.old (limits_of limits) }
 {
-    let stored = pool_table::Limits {
-        count: limits.count,
-        size: limits.size,
-        bytes_per_sigop: limits.bytes_per_sigop,
-    };
-    pool_calls::make(table, stored)
+    refusals::answer(pool_calls::make(table, limits.into()))
 }
 
 #[unsafe(no_mangle)]
@@ -41,7 +48,7 @@ pub extern "C" fn yaghrudil_pool_add(
     ensures value { result ≡ add_reply table.old (entry_of txid.now fee weight cost) parents.now }
     ensures table_after { table.new ≡ after_add table.old (entry_of txid.now fee weight cost) parents.now }
 {
-    pool_add::add(table, *txid, fee, weight, cost, parents)
+    pool_add::add(table, *txid, fee, weight, cost, parents).into()
 }
 
 #[unsafe(no_mangle)]
@@ -49,7 +56,7 @@ pub extern "C" fn yaghrudil_pool_remove(table: &mut [u64], txid: &[u8; 32]) -> P
     ensures value { result ≡ named_reply table.old (txid_at txid.now 0) }
     ensures table_after { table.new ≡ after_remove table.old (txid_at txid.now 0) }
 {
-    pool_calls::remove(table, *txid)
+    pool_calls::remove(table, *txid).into()
 }
 
 #[unsafe(no_mangle)]
@@ -57,7 +64,7 @@ pub extern "C" fn yaghrudil_pool_set_cost(table: &mut [u64], txid: &[u8; 32], co
     ensures value { result ≡ named_reply table.old (txid_at txid.now 0) }
     ensures table_after { table.new ≡ after_set_cost table.old (txid_at txid.now 0) cost }
 {
-    pool_calls::set_cost(table, *txid, cost)
+    pool_calls::set_cost(table, *txid, cost).into()
 }
 
 #[unsafe(no_mangle)]
@@ -65,12 +72,12 @@ pub extern "C" fn yaghrudil_pool_clear(table: &mut [u64]) -> u64
     ensures value { result ≡ clear_answer table.old }
     ensures table_after { table.new ≡ after_clear table.old }
 {
-    pool_calls::clear(table)
+    refusals::answer(pool_calls::clear(table))
 }
 
 #[unsafe(no_mangle)]
 pub extern "C" fn yaghrudil_pool_totals(table: &[u64]) -> Totals
     ensures { result ≡ totals_reply table.now }
 {
-    pool_calls::totals(table)
+    pool_calls::totals(table).into()
 }

@@ -14,5 +14,5 @@ pub extern "C" fn yaghrudil_post_linearize(
     ensures value { result ≡ reply fees.now sizes.now parents.now order.old }
     ensures order_after { order.new ≡ order_after fees.now sizes.now parents.now order.old }
 {
-    post_linearize::post_linearize(fees, sizes, parents, order)
+    post_linearize::post_linearize(fees, sizes, parents, order).into()
 }

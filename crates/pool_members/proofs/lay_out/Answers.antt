@@ -1,13 +1,13 @@
 -- `lay_out`: nothing where the table does not stand or a room is too short; else the slots by txid, ranked, and then the clusters. Assumes
 -- nothing.
 use mathlib.Core.Path.{◌≡◌, sym, ap, ◌∙◌, subst}
-use mathlib.Core.Bool.{Bool, true, ◌&&◌, false≢true}
+use mathlib.Core.Bool.{Bool, true, ◌&&◌}
 use mathlib.Core.List.{List, [], ◌∷◌, ◌++◌}
 use Prim.Native.Nat.{ℕ, ◌≤◌, ◌<◌}
 use native.Mathlib.Omega.{arith}
 use lib.ListN.{length, get_or, length-take, length-set}
 use lib.Seq.{length-take-le, get_or-set_same}
-use borrow.Author.Tests.{not-true, not-false}
+use Rattle.std.specs.Prelude.{is_some}
 use Rattle.lists.specs.Lists.{distinct}
 use Rattle.pool_table.specs.Pool.{slot_count}
 use Rattle.pool_table.specs.Words.{pool_of}
@@ -20,12 +20,12 @@ use Rattle.pool_check.specs.Linked.{Linked}
 use Rattle.pool_check.proofs.Parts.{stands_linked, linked_both}
 use Rattle.pool_members.proofs.Laid.{six_wide, stands_short, stands_rest, slots_in, order_fits, order_is}
 use Rattle.pool_members.proofs.lay_out.Goals as goal
-use Rattle.pool_members.proofs.lay_out.Goals.{After-sort_linked-sorted}
+use Rattle.pool_members.proofs.lay_out.Goals.{After-sort_linked, In_ok-n}
 
 -- ---- the rooms
 
-pub returns-then-not-are_wide : goal.returns-then-not-are_wide
-returns-then-not-are_wide c = let args = c.args in
+pub returns-then-not-are_wide-clause-stands_value : goal.returns-then-not-are_wide-clause-stands_value
+returns-then-not-are_wide-clause-stands_value c = let args = c.args in
     let six =
     length args.members.now
     ∷ length args.bounds.now
@@ -34,15 +34,12 @@ returns-then-not-are_wide c = let args = c.args in
     ∷ length args.ranks.now
     ∷ length args.places.now
     ∷ [] in
-    let wide = c.are_wide.ensures ∙ ap (λ (n : ℕ). roomy n six) c.slots-slots.ensures in record {
-      stands_value =
-          stands_short args.table.now six (length args.ups.now ∷ length args.spare.now ∷ []) (sym wide ∙ c.if-not-are_wide.true);
-      laid_out = λ e. absurd (false≢true e);
-    }
+    let wide = c.are_wide.ensures ∙ ap (λ (n : ℕ). roomy n six) c.slots.ensures in
+    stands_short args.table.now six (length args.ups.now ∷ length args.spare.now ∷ []) (sym wide ∙ c.if-not-are_wide.true)
 
 -- ---- whether the table stands
 
-module _ (c : After-sort_linked-sorted) where
+module _ (c : After-sort_linked) where
   abbrev six : List ℕ
   six =
       length c.args.members.now
@@ -60,129 +57,127 @@ module _ (c : After-sort_linked-sorted) where
   slots = slot_count (pool_of c.args.table.now)
 
   six_are : roomy slots six ≡ true
-  six_are = sym (c.are_wide.ensures ∙ ap (λ (n : ℕ). roomy n six) c.slots-slots.ensures) ∙ c.if-not-are_wide.false
+  six_are = sym (c.are_wide.ensures ∙ ap (λ (n : ℕ). roomy n six) c.slots.ensures) ∙ c.if-not-are_wide.false
 
-  stood : stands_in c.args.table.now (six ++ two) ≡ (c.sort_linked-sorted.result.stands && clusters_within (pool_of c.args.table.now))
+  stood : stands_in c.args.table.now (six ++ two) ≡ (is_some c.sort_linked.result && clusters_within (pool_of c.args.table.now))
   stood =
       let t = c.args.table.now in
       stands_rest t six two six_are
       ∙ stands_linked t two
-      ∙ ap (λ (b : Bool). b && clusters_within (pool_of t)) (sym c.sort_linked-sorted.ensures.stands_value)
+      ∙ ap (λ (b : Bool). b && clusters_within (pool_of t)) (sym c.sort_linked.ensures.stands_value)
 
-  -- a table that stands
-  module _ (stands : c.sort_linked-sorted.result.stands ≡ true) where
-    both : (roomy slots two ≡ true) × Linked c.args.table.now
-    both = linked_both c.args.table.now two (sym c.sort_linked-sorted.ensures.stands_value ∙ stands)
+-- a table that stands
+module _ (c : In_ok-n) where
+  abbrev wide_slots : ℕ
+  wide_slots = slot_count (pool_of c.args.table.now)
 
-    linked : Linked c.args.table.now
-    linked = both.1
+  both : (roomy wide_slots (length c.args.ups.now ∷ length c.args.spare.now ∷ []) ≡ true) × Linked c.args.table.now
+  both =
+      linked_both c.args.table.now (length c.args.ups.now ∷ length c.args.spare.now ∷ [])
+      (sym c.sort_linked.ensures.stands_value ∙ ap is_some c.in_ok-n.was)
 
-    packed : Standing (pool_of c.args.table.now) c.sort_linked-sorted.result.count c.args.ups.now c.sort_linked-sorted.new.keys
-    packed = c.sort_linked-sorted.ensures.standing stands
+  linked : Linked c.args.table.now
+  linked = both.1
 
-    rooms : (slots < length c.args.members.now)
-        × (slots < length c.args.bounds.now)
-        × (slots < length c.args.firsts.now)
-        × (slots < length c.args.order.now)
-        × (slots < length c.args.ranks.now)
-        × (slots < length c.args.places.now)
-    rooms = six_wide six_are
+  packed : Standing (pool_of c.args.table.now) c.in_ok-n.n c.args.ups.now c.sort_linked.new.keys
+  packed = c.in_ok-n.ensures.standing
 
-    in_ups : slots < length c.sort_linked-sorted.new.keys
-    in_ups = omega (arith, (roomy_both _ both.0).0, c.sort_linked-sorted.auto.keys)
+  rooms : (wide_slots < length c.args.members.now)
+      × (wide_slots < length c.args.bounds.now)
+      × (wide_slots < length c.args.firsts.now)
+      × (wide_slots < length c.args.order.now)
+      × (wide_slots < length c.args.ranks.now)
+      × (wide_slots < length c.args.places.now)
+  rooms =
+      let six =
+      length c.args.members.now
+      ∷ length c.args.bounds.now
+      ∷ length c.args.firsts.now
+      ∷ length c.args.order.now
+      ∷ length c.args.ranks.now
+      ∷ length c.args.places.now
+      ∷ [] in
+      six_wide (sym (c.are_wide.ensures ∙ ap (λ (n : ℕ). roomy n six) c.slots.ensures) ∙ c.if-not-are_wide.false)
 
-    few : c.sort_linked-sorted.result.count ≤ slots
-    few = order_fits c.args.table.now linked packed
+  in_ups : wide_slots < length c.sort_linked.new.keys
+  in_ups = omega (arith, (roomy_both _ both.0).0, c.sort_linked.auto.keys)
 
-pub returns-then-not-sorted : goal.returns-then-not-sorted
-returns-then-not-sorted c = let p = pool_of c.args.table.now in record {
-  stands_value =
-      sym (stood (goal.at.returns-then-not-sorted c).After-sort_linked-sorted
-      ∙ ap (λ (b : Bool). b && clusters_within p) (not-true c.sort_linked-sorted.result.stands c.if-not-sorted.true));
-  laid_out = λ e. absurd (false≢true e);
-}
+  few : c.in_ok-n.n ≤ wide_slots
+  few = order_fits c.args.table.now linked packed
+
+pub returns-in_err-n-clause-stands_value : goal.returns-in_err-n-clause-stands_value
+returns-in_err-n-clause-stands_value c = let p = pool_of c.args.table.now in
+    ap is_some c.from_residual.ensures
+    ∙ sym (stood (goal.at.returns-in_err-n-clause-stands_value c).After-sort_linked ∙ ap (λ (b : Bool). b && clusters_within p) (ap is_some c.in_err-n.was))
 
 -- ---- the slots by txid
 
 pub unpack_all-requires : goal.unpack_all-requires
-unpack_all-requires c = let d = (goal.at.unpack_all-requires c).After-sort_linked-sorted in
-    let st = not-false c.sort_linked-sorted.result.stands c.if-not-sorted.false in
-    simp length-take (omega (arith, few d st, (rooms d st).3))
+unpack_all-requires c = let d = (goal.at.unpack_all-requires c).In_ok-n in
+    simp length-take (omega (arith, few d, (rooms d).3))
 
 pub rank_all-requires : goal.rank_all-requires
-rank_all-requires c = let d = (goal.at.rank_all-requires c).After-sort_linked-sorted in
-    let st = not-false c.sort_linked-sorted.result.stands c.if-not-sorted.false in
+rank_all-requires c = let d = (goal.at.rank_all-requires c).In_ok-n in
     let t = c.args.table.now in
-    let sorted = order_is t (linked d st) (packed d st) c.args.order.now c.unpack_all.ensures in record {
+    let sorted = order_is t (linked d) (packed d) c.args.order.now c.unpack_all.ensures in record {
       slots_value = ap distinct sorted ∙ slots_once (pool_of t);
       by_index =
           λ k l.
           subst (λ (xs : List ℕ). get_or xs k 0 < length c.args.ranks.now) (sym sorted)
-          (omega (arith, (rooms d st).4, slots_in t (linked d st) k (subst (λ (xs : List ℕ). k < length xs) sorted l)));
+          (omega (arith, (rooms d).4, slots_in t (linked d) k (subst (λ (xs : List ℕ). k < length xs) sorted l)));
     }
 
 -- ---- the clusters
 
 pub lay_by_txid-requires : goal.lay_by_txid-requires
-lay_by_txid-requires c = let d = (goal.at.lay_by_txid-requires c).After-sort_linked-sorted in
-    let st = not-false c.sort_linked-sorted.result.stands c.if-not-sorted.false in
+lay_by_txid-requires c = let d = (goal.at.lay_by_txid-requires c).In_ok-n in
     let t = c.args.table.now in
-    let wide = rooms d st in
+    let wide = rooms d in
     let bounds = c.args.bounds.now in record {
-      linked = linked d st;
-      order_value = order_is t (linked d st) (packed d st) c.args.order.now c.unpack_all.ensures;
+      linked = linked d;
+      order_value = order_is t (linked d) (packed d) c.args.order.now c.unpack_all.ensures;
       table_in_bounds = ((omega (arith, wide.4, c.rank_all.auto.ranks)), c.rank_all.ensures.here);
       rooms = record {
         in_members = wide.0;
         in_bounds = omega (arith, wide.1, length-set bounds 0 0);
         in_firsts = wide.2;
-        in_ups = in_ups d st;
+        in_ups = in_ups d;
         in_places = wide.5;
         start = get_or-set_same bounds 0 0 0 (omega (arith, wide.1));
       };
     }
 
-pub returns : goal.returns
-returns c = let d = (goal.at.returns c).After-sort_linked-sorted in
-    let st = not-false c.sort_linked-sorted.result.stands c.if-not-sorted.false in
-    let p = pool_of c.args.table.now in record {
-      stands_value = c.lay_by_txid.ensures.stands_value ∙ sym (stood d ∙ ap (λ (b : Bool). b && clusters_within p) st);
-      laid_out = c.lay_by_txid.ensures.laid_out;
-    }
+pub returns-clause-stands_value : goal.returns-clause-stands_value
+returns-clause-stands_value c = let p = pool_of c.args.table.now in
+    c.lay_by_txid.ensures.stands_value
+    ∙ sym
+    (stood (goal.at.returns-clause-stands_value c).After-sort_linked ∙ ap (λ (b : Bool). b && clusters_within p) (ap is_some c.in_ok-n.was))
+
+-- ---- the bounds
 
 pub slice_bounds-unpack_all-end : goal.slice_bounds-unpack_all-end
-slice_bounds-unpack_all-end c = let d = (goal.at.slice_bounds-unpack_all-end c).After-sort_linked-sorted in
-    let st = not-false c.sort_linked-sorted.result.stands c.if-not-sorted.false in
-    omega (arith, few d st, in_ups d st)
+slice_bounds-unpack_all-end c = let d = (goal.at.slice_bounds-unpack_all-end c).In_ok-n in
+    omega (arith, few d, in_ups d)
 
 pub slice_bounds-unpack_all-end-2 : goal.slice_bounds-unpack_all-end-2
-slice_bounds-unpack_all-end-2 c = let d = (goal.at.slice_bounds-unpack_all-end-2 c).After-sort_linked-sorted in
-    let st = not-false c.sort_linked-sorted.result.stands c.if-not-sorted.false in
-    sym (length-take-le _ _ (omega (arith, few d st, in_ups d st)))
+slice_bounds-unpack_all-end-2 c = let d = (goal.at.slice_bounds-unpack_all-end-2 c).In_ok-n in
+    sym (length-take-le _ _ (omega (arith, few d, in_ups d)))
 
 pub slice_bounds-rank_all-end : goal.slice_bounds-rank_all-end
-slice_bounds-rank_all-end c = let d = (goal.at.slice_bounds-rank_all-end c).After-sort_linked-sorted in
-    let st = not-false c.sort_linked-sorted.result.stands c.if-not-sorted.false in
-    omega (arith, few d st, (rooms d st).3, c.unpack_all.auto.order)
+slice_bounds-rank_all-end c = let d = (goal.at.slice_bounds-rank_all-end c).In_ok-n in
+    omega (arith, few d, (rooms d).3, c.unpack_all.auto.order)
 
 pub slice_bounds-rank_all-end-2 : goal.slice_bounds-rank_all-end-2
-slice_bounds-rank_all-end-2 c = let d = (goal.at.slice_bounds-rank_all-end-2 c).After-sort_linked-sorted in
-    let st = not-false c.sort_linked-sorted.result.stands c.if-not-sorted.false in
-    sym (length-take-le _ _ (omega (arith, few d st, (rooms d st).3, c.unpack_all.auto.order)))
+slice_bounds-rank_all-end-2 c = let d = (goal.at.slice_bounds-rank_all-end-2 c).In_ok-n in
+    sym (length-take-le _ _ (omega (arith, few d, (rooms d).3, c.unpack_all.auto.order)))
 
 pub bounds-bounds-0 : goal.bounds-bounds-0
-bounds-bounds-0 c = let d = (goal.at.bounds-bounds-0 c).After-sort_linked-sorted in
-    omega (arith, (rooms d (not-false c.sort_linked-sorted.result.stands c.if-not-sorted.false)).1)
+bounds-bounds-0 c = omega (arith, (rooms (goal.at.bounds-bounds-0 c).In_ok-n).1)
 
 pub slice_bounds-lay_by_txid-end : goal.slice_bounds-lay_by_txid-end
-slice_bounds-lay_by_txid-end c = let d = (goal.at.slice_bounds-lay_by_txid-end c).After-sort_linked-sorted in
-    let st = not-false c.sort_linked-sorted.result.stands c.if-not-sorted.false in
-    omega (arith, few d st, (rooms d st).3, c.unpack_all.auto.order)
+slice_bounds-lay_by_txid-end c = let d = (goal.at.slice_bounds-lay_by_txid-end c).In_ok-n in
+    omega (arith, few d, (rooms d).3, c.unpack_all.auto.order)
 
 pub slice_bounds-lay_by_txid-end-2 : goal.slice_bounds-lay_by_txid-end-2
-slice_bounds-lay_by_txid-end-2 c = let d = (goal.at.slice_bounds-lay_by_txid-end-2 c).After-sort_linked-sorted in
-    let st = not-false c.sort_linked-sorted.result.stands c.if-not-sorted.false in
-    sym (length-take-le _ _ (omega (arith, few d st, (rooms d st).3, c.unpack_all.auto.order)))
-
-pub shape_of-bounds : goal.shape_of-bounds
-shape_of-bounds c = c.lay_by_txid.auto.bounds ∙ length-set c.args.bounds.now 0 0
+slice_bounds-lay_by_txid-end-2 c = let d = (goal.at.slice_bounds-lay_by_txid-end-2 c).In_ok-n in
+    sym (length-take-le _ _ (omega (arith, few d, (rooms d).3, c.unpack_all.auto.order)))

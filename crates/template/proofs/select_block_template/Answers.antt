@@ -1,12 +1,15 @@
 -- `select_block_template`: the refusals in their order, and then the chunks tried and what is selected written. Assumes nothing.
 use mathlib.Core.Path.{◌≡◌, sym, ap, ◌∙◌}
 use mathlib.Core.Bool.{Bool, true}
-use mathlib.Core.List.{List, [], ◌∷◌}
+use mathlib.Core.List.{List, [], ◌∷◌, ◌++◌}
 use Prim.Native.Nat.{ℕ, ◌≤◌, ◌<◌}
 use native.Mathlib.Omega.{arith}
-use lib.ListN.{length, length-take}
+use lib.ListN.{length, take, drop, length-take}
+use Rattle.lists.specs.Lists.{overwrite}
 use lib.Seq.{length-take-le}
-use Rattle.refusals.specs.Refusals.{answer_of}
+use Rattle.std.proofs.Common.{Ok, Err}
+use Rattle.std.proofs.lemmas.Result.{IfOk-at_ok, err_from_is_err_and}
+use Rattle.refusals.specs.Refusals.{answer_of, answer_from}
 use Rattle.refusals.proofs.Lines.{Takes}
 use Rattle.pool_table.specs.Pool.{slot_count}
 use Rattle.pool_table.specs.Words.{pool_of}
@@ -14,12 +17,12 @@ use Rattle.pool_table.specs.WellFormed.{well_formed}
 use Rattle.pool_order.specs.Order.{roomy}
 use Rattle.pool_order.proofs.Slots.{roomy_both}
 use Rattle.pool_chunks.specs.Sorted.{delta_refusals, Arrays, arrays, Sorted}
-use Rattle.template_rules.specs.Filling.{Settings, settings}
+use Rattle.template_rules.specs.Filling.{Settings, settings, template}
 use Rattle.template_rules.specs.Calls.{template_refusals}
 use Rattle.template.specs.Trying.{Filled}
-use Rattle.template.proofs.Answers.{parts_of, answer_none, stands_wide, fillable, template_fits, answered_refused, answered_filled}
+use Rattle.template.proofs.Answers.{parts_of, stands_wide, fillable, template_fits, answered_refused, answered_filled}
 use Rattle.template.proofs.select_block_template.Goals as goal
-use Rattle.template.proofs.select_block_template.Goals.{After-refusal-answer}
+use Rattle.template.proofs.select_block_template.Goals.{After-checked}
 
 -- the third and the fourth of some rooms
 third_wide : {n c d : ℕ} (a b : ℕ) (rest : List ℕ) → roomy n (a ∷ b ∷ c ∷ d ∷ rest) ≡ true → (n < c) × (n < d)
@@ -31,7 +34,7 @@ third_wide {c = c} {d = d} a b rest e =
 
 -- ---- the table's and the deltas' own answer, and the call's
 
-module _ (c : After-refusal-answer) where
+module _ (c : After-checked) where
   abbrev t : List ℕ
   t = c.args.table.now
 
@@ -54,70 +57,90 @@ module _ (c : After-refusal-answer) where
       ∷ length c.args.sizes.now
       ∷ []
 
-  own : c.all_chunks-cut.result.answer ≡ answer_of (delta_refusals (well_formed t) t c.args.deltas.now)
+  own : answer_from c.all_chunks-made.result ≡ answer_of (delta_refusals (well_formed t) t c.args.deltas.now)
   own =
-      c.all_chunks-cut.ensures.answer_value
+      c.all_chunks-made.ensures.answer_value
       ∙ ap (λ (b : Bool). answer_of (delta_refusals b t c.args.deltas.now)) (stands_wide t nine c.requires)
 
-  told : c.refusal-answer.result ≡ answer_of (template_refusals t w room)
-  told = c.refusal-answer.ensures c.args.deltas.now c.args.terms own
+  told : answer_from c.checked.result ≡ answer_of (template_refusals t w room)
+  told = c.checked.ensures.told c.args.deltas.now c.args.terms own
 
-  abbrev arrays_of : Arrays
-  arrays_of =
-      let new = c.all_chunks-cut.new in
-      arrays c.all_chunks-cut.result.count new.listed new.starts new.fees new.sizes new.order new.members new.firsts new.ups
+  abbrev arrays_of : ℕ → Arrays
+  arrays_of count =
+      let new = c.all_chunks-made.new in
+      arrays count new.listed new.starts new.fees new.sizes new.order new.members new.firsts new.ups
 
   -- ---- nothing is refused
 
-  module _ (e : c.refusal-answer.result ≡ 0) where
+  module _ {count : ℕ} (e : c.checked.result ≡ Ok count) where
     takes : Takes (template_refusals t w room)
-    takes = record { answer = sym told ∙ e }
+    takes = record { answer = sym told ∙ ap answer_from e }
 
     well : well_formed t ≡ true
     well = (parts_of t w room takes).0
 
-    sorted : Sorted (pool_of t) c.args.deltas.now arrays_of
-    sorted = c.all_chunks-cut.ensures.sorted (answer_none t w room own takes)
+    made : c.all_chunks-made.result ≡ Ok count
+    made = IfOk-at_ok (λ n. c.all_chunks-made.result ≡ Ok n) e c.checked.ensures.kept
+
+    sorted : Sorted (pool_of t) c.args.deltas.now (arrays_of count)
+    sorted = IfOk-at_ok (λ n. Sorted (pool_of t) c.args.deltas.now (arrays_of n)) made c.all_chunks-made.ensures.sorted
 
     rooms : (slot_count (pool_of t) < length c.args.bounds.now) × (slot_count (pool_of t) < length c.args.firsts.now)
     rooms = third_wide (length c.args.fees.now) (length c.args.members.now) _ (c.requires well)
 
-fits : {out picked : List ℕ} {n : ℕ} → Filled out picked n → n ≤ length picked
-fits {picked = picked} {n = n} f = omega (arith, f.count, ap length f.are, length-take n picked)
+    -- what is selected has its places in the room
+    module _ {picked : List ℕ} {n : ℕ} (f : Filled (template (pool_of t) w) picked n) where
+      fits : n ≤ length picked
+      fits = omega (arith, f.count, ap length f.are, length-take n picked)
 
-pub returns-then-answer-ne0 : goal.returns-then-answer-ne0
-returns-then-answer-ne0 c = let d = (goal.at.returns-then-answer-ne0 c).After-refusal-answer in
-    let refused = answered_refused (t d) (w d) (room d) (told d) c.if-answer-ne0.true c.refused.ensures in
-    record { value = refused.0; room_after = refused.1 }
+      room_fits : n ≤ length room
+      room_fits = omega (arith, f.count, template_fits t well w, (parts_of t w room takes).2)
+
+      copied : {new : List ℕ} → new ≡ take n picked → new ++ drop n room ≡ overwrite (take n picked) room
+      copied e = rw (e, length-take-le n picked fits)
+
+pub returns-in_err-count : goal.returns-in_err-count
+returns-in_err-count c = let d = (goal.at.returns-in_err-count c).After-checked in
+    let p = err_from_is_err_and c.from_residual.result c.from_residual.ensures.1 in
+    let same : p.0 ≡ c.in_err-count.field-0.0 = grind arith in
+    let was : c.checked.result ≡ Err c.in_err-count.field-0.0 = c.in_err-count.was in
+    let refused = answered_refused (t d) (w d) (room d) c.in_err-count.field-0.0 (ap answer_from (sym was) ∙ told d) in
+    record { value = rw (p.1, same) refused.0; room_after = refused.1 }
 
 pub fill-n-requires : goal.fill-n-requires
-fill-n-requires c = let d = (goal.at.fill-n-requires c).After-refusal-answer in
-    let e = c.if-answer-ne0.false in
-    let kept = c.all_chunks-cut.auto in record {
-      fillable = fillable (t d) (well d e) c.args.deltas.now (arrays_of d) (omega (arith, (rooms d e).1, kept.firsts)) (sorted d e);
-      table_in_bounds = omega (arith, (rooms d e).0, kept.bounds);
+fill-n-requires c = let d = (goal.at.fill-n-requires c).After-checked in
+    let kept = c.all_chunks-made.auto in record {
+      fillable = fillable (t d) (well d c.in_ok-count.was) c.args.deltas.now (arrays_of d c.in_ok-count.count)
+          (omega (arith, (rooms d c.in_ok-count.was).1, kept.firsts)) (sorted d c.in_ok-count.was);
+      table_in_bounds = omega (arith, (rooms d c.in_ok-count.was).0, kept.bounds);
     }
 
-pub write_out-requires : goal.write_out-requires
-write_out-requires c = let d = (goal.at.write_out-requires c).After-refusal-answer in
-    let e = c.if-answer-ne0.false in
-    let filled = c.fill-n.ensures c.args.deltas.now (sorted d e) in
-    omega (arith, ap length filled.are, template_fits (t d) (well d e) (w d), (parts_of (t d) (w d) (room d) (takes d e)).2)
+pub copy_from_slice-requires : goal.copy_from_slice-requires
+copy_from_slice-requires c = let d = (goal.at.copy_from_slice-requires c).After-checked in
+    let filled = c.fill-n.ensures c.args.deltas.now (sorted d c.in_ok-count.was) in
+    length-take-le _ _ (room_fits d c.in_ok-count.was filled) ∙ sym (length-take-le _ _ (fits d c.in_ok-count.was filled))
+
+pub slice_bounds-copy_from_slice-end : goal.slice_bounds-copy_from_slice-end
+slice_bounds-copy_from_slice-end c = let d = (goal.at.slice_bounds-copy_from_slice-end c).After-checked in
+    room_fits d c.in_ok-count.was (c.fill-n.ensures c.args.deltas.now (sorted d c.in_ok-count.was))
+
+pub slice_bounds-copy_from_slice-end-2 : goal.slice_bounds-copy_from_slice-end-2
+slice_bounds-copy_from_slice-end-2 c = let d = (goal.at.slice_bounds-copy_from_slice-end-2 c).After-checked in
+    sym (length-take-le _ _ (room_fits d c.in_ok-count.was (c.fill-n.ensures c.args.deltas.now (sorted d c.in_ok-count.was))))
+
+pub slice_bounds-copy_from_slice-end-3 : goal.slice_bounds-copy_from_slice-end-3
+slice_bounds-copy_from_slice-end-3 c = let d = (goal.at.slice_bounds-copy_from_slice-end-3 c).After-checked in
+    fits d c.in_ok-count.was (c.fill-n.ensures c.args.deltas.now (sorted d c.in_ok-count.was))
+
+pub slice_bounds-copy_from_slice-end-4 : goal.slice_bounds-copy_from_slice-end-4
+slice_bounds-copy_from_slice-end-4 c = let d = (goal.at.slice_bounds-copy_from_slice-end-4 c).After-checked in
+    sym (length-take-le _ _ (fits d c.in_ok-count.was (c.fill-n.ensures c.args.deltas.now (sorted d c.in_ok-count.was))))
 
 pub returns : goal.returns
-returns c = let d = (goal.at.returns c).After-refusal-answer in
-    let e = c.if-answer-ne0.false in
-    let filled = c.fill-n.ensures c.args.deltas.now (sorted d e) in
-    let answered = answered_filled (t d) (w d) (room d) (takes d e) filled c.wrote.ensures c.write_out.ensures in
+returns c = let d = (goal.at.returns c).After-checked in
+    let filled = c.fill-n.ensures c.args.deltas.now (sorted d c.in_ok-count.was) in
+    let answered = answered_filled (t d) (w d) (room d) (takes d c.in_ok-count.was) filled (copied d c.in_ok-count.was filled c.copy_from_slice.ensures.after) in
     record { value = answered.0; room_after = answered.1 }
 
-pub slice_bounds-write_out-end : goal.slice_bounds-write_out-end
-slice_bounds-write_out-end c = let d = (goal.at.slice_bounds-write_out-end c).After-refusal-answer in
-    fits (c.fill-n.ensures c.args.deltas.now (sorted d c.if-answer-ne0.false))
-
-pub slice_bounds-write_out-end-2 : goal.slice_bounds-write_out-end-2
-slice_bounds-write_out-end-2 c = let d = (goal.at.slice_bounds-write_out-end-2 c).After-refusal-answer in
-    sym (length-take-le _ _ (fits (c.fill-n.ensures c.args.deltas.now (sorted d c.if-answer-ne0.false))))
-
 pub shape_of-bounds : goal.shape_of-bounds
-shape_of-bounds c = c.fill-n.auto.picked ∙ c.all_chunks-cut.auto.bounds
+shape_of-bounds c = c.fill-n.auto.picked ∙ c.all_chunks-made.auto.bounds

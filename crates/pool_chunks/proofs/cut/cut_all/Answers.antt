@@ -151,9 +151,6 @@ pub overflow_add-count : goal.overflow_add-count
 overflow_add-count c = let w = (goal.at.overflow_add-count c).In-loop-c in
     omega (arith, count_more w c.cut_cluster-count.ensures.value, (safe_here w).few)
 
-pub overflow_add-c : goal.overflow_add-c
-overflow_add-c c = omega (arith, c_few (goal.at.overflow_add-c c).In-loop-c)
-
 pub loop-c-preserved : goal.loop-c-preserved
 loop-c-preserved c = let w = (goal.at.loop-c-preserved c).In-loop-c in
     let told = c.cut_cluster-count.ensures in
@@ -225,18 +222,6 @@ slice_bounds-cut_cluster-count-in-loop-c-4 c = omega (arith, in_sizes (goal.at.s
 
 pub slice_bounds-cut_cluster-start-in-loop-c-4 : goal.slice_bounds-cut_cluster-start-in-loop-c-4
 slice_bounds-cut_cluster-start-in-loop-c-4 c = omega (arith, in_sizes (goal.at.slice_bounds-cut_cluster-start-in-loop-c-4 c).At-loop-c)
-
-pub shape_of-listed : goal.shape_of-listed
-shape_of-listed c = listed_long (goal.at.shape_of-listed c).At-loop-c
-
-pub shape_of-starts : goal.shape_of-starts
-shape_of-starts c = starts_long (goal.at.shape_of-starts c).At-loop-c
-
-pub shape_of-fees : goal.shape_of-fees
-shape_of-fees c = fees_long (goal.at.shape_of-fees c).At-loop-c
-
-pub shape_of-sizes : goal.shape_of-sizes
-shape_of-sizes c = sizes_long (goal.at.shape_of-sizes c).At-loop-c
 
 pub returns : goal.returns
 returns c = cutting_done c.loop-c.invariant (omega (arith, c.loop-c-test.false, c.requires.laying.many)) (count_fits (goal.at.returns c).At-loop-c)

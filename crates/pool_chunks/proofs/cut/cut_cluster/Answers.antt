@@ -10,7 +10,7 @@ use Rattle.pool_chunks.specs.Chunks.{fees_of, sizes_of}
 use Rattle.pool_chunks.proofs.OneCluster.{front_is, alone_written, answered, Ordered, ordered, ordered_long, ordered_many, ordered_few}
 use Rattle.pool_chunks.proofs.OneCluster.{ordered_below, ordered_fits, ordered_whole, ordered_written}
 use Rattle.pool_chunks.proofs.cut.cut_cluster.Goals as goal
-use Rattle.pool_chunks.proofs.cut.cut_cluster.Goals.{After-gather_parents, After-gather_rates, After-order_cluster-k}
+use Rattle.pool_chunks.proofs.cut.cut_cluster.Goals.{After-pick, After-gather_rates, After-order_cluster-k}
 
 -- ---- what was gathered
 
@@ -49,12 +49,12 @@ module _ (c : After-gather_rates) where
   sizes_wide : length members_in ≤ length c.gather_rates.new.sizes
   sizes_wide = omega (arith, c.gather_rates.auto.sizes, c.requires.cuttable.few)
 
-module _ (c : After-gather_parents) where
+module _ (c : After-pick) where
   abbrev ups_lent : List ℕ
-  ups_lent = take (length c.args.members.now) c.gather_parents.new.parents
+  ups_lent = take (length c.args.members.now) c.pick.new.to
 
   ups_are : ups_lent ≡ map (λ s. get_or c.args.ups.now s 0) c.args.members.now
-  ups_are = front_is _ _ c.gather_parents.ensures (length-map c.args.members.now _)
+  ups_are = front_is _ _ (c.pick.ensures 0) (length-map c.args.members.now _)
 
   ups_long : length ups_lent ≡ length c.args.members.now
   ups_long = ap length ups_are ∙ length-map c.args.members.now _
@@ -76,7 +76,7 @@ module _ (c : After-order_cluster-k) where
       ordered c.requires.cuttable _ _ _ _ _
       (front_is _ _ c.gather_rates.ensures.fees_after (length-map c.args.members.now _))
       (front_is _ _ c.gather_rates.ensures.sizes_after (length-map c.args.members.now _))
-      (front_is _ _ c.gather_parents.ensures (length-map c.args.members.now _))
+      (front_is _ _ (c.pick.ensures 0) (length-map c.args.members.now _))
       told.value told.order_after told.lens_after
 
   order_long : length order_lent ≡ length c.args.members.now
@@ -116,12 +116,12 @@ returns-then-n-eq1 c = let put = c.put.ensures in
 
 pub order_cluster-k-requires : goal.order_cluster-k-requires
 order_cluster-k-requires c = let g = (goal.at.order_cluster-k-requires c).After-gather_rates in
-    answered c.requires.cuttable _ _ _ (fees_are g) (sizes_are g) (ups_are (goal.at.order_cluster-k-requires c).After-gather_parents) refl refl
+    answered c.requires.cuttable _ _ _ (fees_are g) (sizes_are g) (ups_are (goal.at.order_cluster-k-requires c).After-pick) refl refl
 
-pub put_slots-requires : goal.put_slots-requires
-put_slots-requires c = let o = (goal.at.put_slots-requires c).After-order_cluster-k in record {
+pub pick-requires-2 : goal.pick-requires-2
+pick-requires-2 c = let o = (goal.at.pick-requires-2 c).After-order_cluster-k in record {
   by_index = ordered_below c.requires.cuttable (ready o);
-  order_in_bounds = omega (arith, order_long o, c.requires.members_in_bounds.0);
+  places_in_bounds = omega (arith, order_long o, c.requires.members_in_bounds.0);
 }
 
 pub put_ends-requires : goal.put_ends-requires
@@ -140,7 +140,7 @@ put_rates-requires c = let o = (goal.at.put_rates-requires c).After-order_cluste
 
 pub returns : goal.returns
 returns c = let o = (goal.at.returns c).After-order_cluster-k in
-    let all = ordered_written c.requires.cuttable (ready o) _ _ _ _ c.put_slots.ensures c.put_ends.ensures c.put_rates.ensures.fees_after
+    let all = ordered_written c.requires.cuttable (ready o) _ _ _ _ (c.pick-2.ensures 0) c.put_ends.ensures c.put_rates.ensures.fees_after
     c.put_rates.ensures.sizes_after in record {
       value = all.0;
       listed_after = all.1.0;
@@ -158,10 +158,10 @@ pub slice_bounds-order_cluster-end-2 : goal.slice_bounds-order_cluster-end-2
 slice_bounds-order_cluster-end-2 c = sym (sizes_long (goal.at.slice_bounds-order_cluster-end-2 c).After-gather_rates)
 
 pub slice_bounds-order_cluster-end-3 : goal.slice_bounds-order_cluster-end-3
-slice_bounds-order_cluster-end-3 c = sym (ups_long (goal.at.slice_bounds-order_cluster-end-3 c).After-gather_parents)
+slice_bounds-order_cluster-end-3 c = sym (ups_long (goal.at.slice_bounds-order_cluster-end-3 c).After-pick)
 
-pub slice_bounds-put_slots-end : goal.slice_bounds-put_slots-end
-slice_bounds-put_slots-end c = sym (order_long (goal.at.slice_bounds-put_slots-end c).After-order_cluster-k)
+pub slice_bounds-pick-end-2 : goal.slice_bounds-pick-end-2
+slice_bounds-pick-end-2 c = sym (order_long (goal.at.slice_bounds-pick-end-2 c).After-order_cluster-k)
 
 pub slice_bounds-lens-end : goal.slice_bounds-lens-end
 slice_bounds-lens-end c = lens_wide (goal.at.slice_bounds-lens-end c).After-order_cluster-k

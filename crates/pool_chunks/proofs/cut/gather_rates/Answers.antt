@@ -17,12 +17,6 @@ loop-i-preserved c = let fee = ap (λ (r : FeeFrac). r.fee) c.slot_rate.ensures 
       copied_put c.loop-i.invariant.1 0 c.loop-i-test.true size c.put.ensures.sizes_after,
     )
 
-pub shape_of-fees : goal.shape_of-fees
-shape_of-fees c = c.loop-i.invariant.0.filled.long
-
-pub shape_of-sizes : goal.shape_of-sizes
-shape_of-sizes c = c.loop-i.invariant.1.filled.long
-
 pub returns : goal.returns
 returns c = record {
   fees_after = copied_done c.loop-i.invariant.0 c.loop-i-test.false;

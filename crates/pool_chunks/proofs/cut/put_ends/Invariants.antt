@@ -1,10 +1,5 @@
-use Prim.Native.Nat.{◌-◌}
-use lib.ListN.{length}
 use Rattle.pool_chunks.proofs.Writing.{Ending}
 use Rattle.pool_chunks.proofs.cut.put_ends.Given as goal
 
 abbrev pub invariant-loop-k : goal.invariant-loop-k
 invariant-loop-k l = Ending l.from l.lens l.initial.ends l.ends l.end l.k
-
-abbrev pub decreases-loop-k : goal.decreases-loop-k
-decreases-loop-k l = length l.lens - l.k

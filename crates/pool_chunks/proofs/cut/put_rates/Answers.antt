@@ -25,11 +25,5 @@ pub loop-k-preserved : goal.loop-k-preserved
 loop-k-preserved c =
     summing_turn c.loop-k.invariant c.loop-k-test.true _ _ _ c.list_feerate.ensures c.put.ensures.fees_after c.put.ensures.sizes_after
 
-pub shape_of-fees : goal.shape_of-fees
-shape_of-fees c = c.loop-k.invariant.in_fees.filled.long
-
-pub shape_of-sizes : goal.shape_of-sizes
-shape_of-sizes c = c.loop-k.invariant.in_sizes.filled.long
-
 pub returns : goal.returns
 returns c = let done = summing_done c.loop-k.invariant c.loop-k-test.false in record { fees_after = done.0; sizes_after = done.1 }

@@ -1,4 +1,4 @@
--- `note_all`: the first k members have their notes. Assumes nothing.
+-- `note_all`: the members passed have their notes. Assumes nothing.
 use mathlib.Core.Path.{refl}
 use Prim.Native.Nat.{ℕ, ◌<◌}
 use native.Mathlib.Omega.{arith}
@@ -16,14 +16,11 @@ below : (c : Start) (n : ℕ) → slot_count (pool_of c.args.table.now) < n → 
     → get_or c.args.members.now k 0 < n
 below c n e k l = omega (arith, c.requires.closed.below (get_or c.args.members.now k 0) (elem_at c.args.members.now k l))
 
-pub rank_all-requires : goal.rank_all-requires
-rank_all-requires c = record {
-  slots_value = c.requires.closed.once;
-  by_index = below (goal.at.rank_all-requires c).Start _ c.requires.table_in_bounds;
-}
+pub rank_all-requires-clause-by_index : goal.rank_all-requires-clause-by_index
+rank_all-requires-clause-by_index c = below (goal.at.rank_all-requires-clause-by_index c).Start _ c.requires.table_in_bounds
 
-pub loop-k-init : goal.loop-k-init
-loop-k-init c = let st = (goal.at.loop-k-init c).Start in
+pub loop-s-init : goal.loop-s-init
+loop-s-init c = let st = (goal.at.loop-s-init c).Start in
     let closed = c.requires.closed in
     let long = c.requires.table_in_bounds_2 in
     (storing_start _ _ _ closed.once (below st _ long.0), storing_start _ _ _ closed.once (below st _ long.1))
@@ -34,40 +31,25 @@ parents_at-above-requires c =
 
 -- the member is one of the slots
 pub bounds-firsts-s : goal.bounds-firsts-s
-bounds-firsts-s c = storing_within c.loop-k.invariant.0 c.loop-k-test.true
+bounds-firsts-s c = storing_within c.loop-s.invariant.0 c.loop-s-test.true
 
 pub bounds-ups-s : goal.bounds-ups-s
-bounds-ups-s c = storing_within c.loop-k.invariant.1 c.loop-k-test.true
+bounds-ups-s c = storing_within c.loop-s.invariant.1 c.loop-s-test.true
 
-pub loop-k-preserved : goal.loop-k-preserved
-loop-k-preserved c = let ms = c.args.members.now in
-    let k = c.loop-k.k in
-    let l = c.loop-k-test.true in
+pub loop-s-preserved : goal.loop-s-preserved
+loop-s-preserved c = let ms = c.args.members.now in
+    let k = c.loop-s.s-index in
+    let l = c.loop-s-test.true in
     let word = c.parents_at-above.result.word in (
-      storing_more c.loop-k.invariant.0 c.args.first l refl,
-      storing_more c.loop-k.invariant.1 word l
+      storing_more c.loop-s.invariant.0 c.args.first l refl,
+      storing_more c.loop-s.invariant.1 word l
           (parents_word c.args.table.now c.requires.linked ms c.rank_all.new.ranks (get_or ms k 0) word c.requires.closed
           c.rank_all.ensures.here
           (elem_at ms k l) (omega (arith, c.parents_at-above.type_inv)) c.parents_at-above.ensures),
     )
 
-pub shape_of-places : goal.shape_of-places
-shape_of-places c = c.rank_all.ensures.long
-
-pub shape_of-firsts : goal.shape_of-firsts
-shape_of-firsts c = c.loop-k.invariant.0.stored.long
-
-pub shape_of-ups : goal.shape_of-ups
-shape_of-ups c = c.loop-k.invariant.1.stored.long
-
 pub returns : goal.returns
 returns c = record {
-  stored_at = storing_done c.loop-k.invariant.0 c.loop-k-test.false;
-  stored_at_2 = storing_done c.loop-k.invariant.1 c.loop-k-test.false;
+  stored_at = storing_done c.loop-s.invariant.0 c.loop-s-test.false;
+  stored_at_2 = storing_done c.loop-s.invariant.1 c.loop-s-test.false;
 }
-
-pub offset_bounds-firsts-s : goal.offset_bounds-firsts-s
-offset_bounds-firsts-s c = omega (arith, bounds-firsts-s c)
-
-pub offset_bounds-ups-s : goal.offset_bounds-ups-s
-offset_bounds-ups-s c = omega (arith, bounds-ups-s c)

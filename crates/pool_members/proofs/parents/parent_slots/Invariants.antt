@@ -1,4 +1,3 @@
-use Prim.Native.Nat.{◌-◌}
 use Rattle.txset.specs.Sets.{has_in}
 use Rattle.slotsets.proofs.Words.{Upto}
 use Rattle.pool_table.specs.Pool.{slot_at}
@@ -7,6 +6,3 @@ use Rattle.pool_members.proofs.parents.parent_slots.Given as goal
 
 abbrev pub invariant-loop-j : goal.invariant-loop-j
 invariant-loop-j l = Upto (has_in (slot_at (pool_of l.table) l.s).parents) l.j l.initial.set l.set
-
-abbrev pub decreases-loop-j : goal.decreases-loop-j
-decreases-loop-j l = 16 - l.j

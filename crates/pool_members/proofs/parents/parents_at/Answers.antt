@@ -7,33 +7,25 @@ use Rattle.txset.specs.Sets.{mem, is_position, positions}
 use Rattle.pool_members.proofs.Ranks.{rank_ext, ranking_start, ranking_done, ranking_turn, lowest_here, lowest_less}
 use Rattle.pool_members.proofs.parents.parents_at.Goals as goal
 
-pub loop-left-init : goal.loop-left-init
-loop-left-init c = let found = c.before in
-    ((search rules), (λ i e. found.requires i (sym (found.parent_slots-left.ensures i) ∙ e)), ranking_start positions _ _ _ c.empty-set.ensures)
-
-pub returns-then-a-ge-CAPACITY : goal.returns-then-a-ge-CAPACITY
-returns-then-a-ge-CAPACITY c i = let found = c.before.before.before.before.before in
-    ranking_done c.loop-left.invariant.2 c.lowest-a.result c.lowest-a.ensures c.if-a-ge-CAPACITY.true i
-    ∙ ap (λ (b : Bool). is_position i && b) (rank_ext _ _ _ i found.parent_slots-left.ensures)
+pub loop-a-init : goal.loop-a-init
+loop-a-init c =
+    ((search rules), (λ i e. c.requires i (sym (c.parent_slots-left.ensures i) ∙ e)), ranking_start positions _ _ _ c.empty-set.ensures)
 
 pub bounds-places-a : goal.bounds-places-a
-bounds-places-a c = let else = c.before.before.before.before in
-    let loop = else.before.before.before in
-    loop.loop-left.invariant.1 else.lowest-a.result
-    (lowest_here loop.loop-left.left else.lowest-a.result else.lowest-a.ensures else.if-a-ge-CAPACITY.false)
+bounds-places-a c = c.loop-a.invariant.1 c.in-Some.a (lowest_here _ _ c.in-Some.ensures)
 
-pub loop-left-smaller : goal.loop-left-smaller
-loop-left-smaller c = let remove = c.before.before.before in
-    let else = remove.before.before in
-    lowest_less else.loop-left.left remove.remove.new.set else.lowest-a.result else.lowest-a.ensures
-    else.if-a-ge-CAPACITY.false remove.remove.ensures.by_index
+pub loop-a-smaller : goal.loop-a-smaller
+loop-a-smaller c = lowest_less _ _ _ c.in-Some.ensures c.remove.ensures.by_index
 
-pub loop-left-preserved : goal.loop-left-preserved
-loop-left-preserved c = let remove = c.before.before.before in
-    let else = remove.before.before in
-    let inv = else.loop-left.invariant in (
-      remove.remove.ensures.set_len_unchanged ∙ inv.0,
-      λ i e. inv.1 i (and_left _ _ (sym (remove.remove.ensures.by_index i) ∙ e)),
-      ranking_turn inv.2 else.lowest-a.result else.lowest-a.ensures else.if-a-ge-CAPACITY.false
-          remove.remove.new.set remove.remove.ensures.by_index (mem c.insert-set.result) c.insert-set.ensures,
+pub loop-a-preserved : goal.loop-a-preserved
+loop-a-preserved c =
+    let inv = c.loop-a.invariant in (
+      c.remove.ensures.set_len_unchanged ∙ inv.0,
+      λ i e. inv.1 i (and_left _ _ (sym (c.remove.ensures.by_index i) ∙ e)),
+      ranking_turn inv.2 c.in-Some.a c.in-Some.ensures c.remove.new.set c.remove.ensures.by_index (mem c.insert-set.result) c.insert-set.ensures,
     )
+
+pub returns : goal.returns
+returns c i =
+    ranking_done c.loop-a.invariant.2 c.in_default.ensures i
+    ∙ ap (λ (b : Bool). is_position i && b) (rank_ext _ _ _ i c.parent_slots-left.ensures)

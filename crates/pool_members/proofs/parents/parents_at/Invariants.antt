@@ -7,8 +7,8 @@ use Rattle.pool_members.specs.Steps.{Within}
 use Rattle.pool_members.proofs.Ranks.{Ranking}
 use Rattle.pool_members.proofs.parents.parents_at.Given as goal
 
-abbrev pub invariant-loop-left : goal.invariant-loop-left
-invariant-loop-left l = (length l.left ≡ set_words) × Within l.left l.places × Ranking positions l.places l.initial.left l.left (mem l.set)
+abbrev pub invariant-loop-a : goal.invariant-loop-a
+invariant-loop-a l = (length l.left ≡ set_words) × Within l.left l.places × Ranking positions l.places l.initial.left l.left (mem l.set)
 
-abbrev pub decreases-loop-left : goal.decreases-loop-left
-decreases-loop-left l = count_from (has_in l.left) capacity 0
+abbrev pub decreases-loop-a : goal.decreases-loop-a
+decreases-loop-a l = count_from (has_in l.left) capacity 0

@@ -1,19 +1,12 @@
-use mathlib.Core.Path.{refl, sym, ◌∙◌}
-use Rattle.template.proofs.Asking.{all_no, all_so_far, all_yes}
+use mathlib.Core.Path.{◌∙◌}
+use borrow.Author.Rules.{rules}
+use Rattle.std.proofs.lemmas.Iterator.{YieldsList-from_slice}
+use Rattle.std.proofs.lemmas.Iterator.Search.{all_from_yields_List}
+use Rattle.txset.specs.Sets.{has_in}
+use Rattle.template.proofs.Asking.{all_list}
 use Rattle.template.proofs.tests.all_taken.Goals as goal
 
-pub returns-then-not-contains : goal.returns-then-not-contains
-returns-then-not-contains c = let turn = c.before.before.before in
-    let loop = turn.loop-i in
-    all_no _ _ loop.i loop.invariant turn.loop-i-test.true (sym c.contains.ensures ∙ c.if-not-contains.true)
-
-pub loop-i-preserved : goal.loop-i-preserved
-loop-i-preserved c = let turn = c.before.before.before in
-    let loop = turn.loop-i in
-    all_so_far _ _ loop.i loop.invariant turn.loop-i-test.true (sym c.contains.ensures ∙ c.if-not-contains.false)
-
-pub loop-i-init : goal.loop-i-init
-loop-i-init c = refl
-
 pub returns : goal.returns
-returns c = all_yes _ _ c.loop-i.i c.loop-i.invariant c.loop-i-test.false
+returns c =
+    all_from_yields_List (has_in c.args.taken.now) _ _ _ c.all.ensures.ran (YieldsList-from_slice c.args.slots.now cc) (λ x b q k. search rules)
+    ∙ all_list _ _
