@@ -6,9 +6,9 @@ use Prim.Native.Nat.{ℕ, zero, suc, ◌+◌, ◌*◌, ◌≤◌, ◌<◌}
 use native.Mathlib.Omega.{arith}
 use lib.ListN.{length, drop, length-drop}
 use lib.IntN.{ℤ}
+use Rattle.std.proofs.Common.{Ok}
 use Rattle.texts.specs.Numerals.{number_of, signed_of, is_number, is_signed}
 use Rattle.texts.specs.Places.{behind}
-use Rattle.cluster_reader.specs.declared.Input.TheVariants.{Members}
 use Rattle.cluster_reader.specs.Lines.{longest_line, longest_text, is_field, value_of}
 use Rattle.cluster_reader.specs.Reading.{fee_key, size_key, parents_key}
 use Rattle.cluster_reader.specs.Reading.{is_member, member_fee, member_size, member_parents, next_member, Read, refused, members, read, told, first_told}
@@ -42,7 +42,7 @@ members_full (suc k) xs fs ss ps l =
     (λ _. refl)
 
 -- a first line that gives a number of members, in a text that has more than those can have
-pub count_full : (text : List ℕ) (n : ℕ) → first_told text ≡ told (Members n) → longest_text < length text → read text ≡ refused 13
+pub count_full : (text : List ℕ) (n : ℕ) → first_told text ≡ told (Ok n) → longest_text < length text → read text ≡ refused 13
 count_full text n h long =
     let c = read_count text n h in
     c.is ∙ members_full n (drop (next_line text 0) text) [] [] [] (omega (arith, c.few, c.near, length-drop (next_line text 0) text))

@@ -10,18 +10,16 @@ use lib.Bits.{bit_or, or_lt}
 use lib.Pow.{pow-lt}
 use lib.ListN.{length, drop}
 use borrow.Author.Tests.{lt-ltb, le-ltb, ne_eqb}
+use Rattle.std.proofs.Common.{Option, Some, None}
 use Rattle.lists.specs.Lists.{all_of}
 use Rattle.txset.specs.Sets.{has, mem, positions, is_position}
 use Rattle.txset.specs.declared.TxSet.{TxSet}
 use Rattle.lists.proofs.Numbers.{lt_or_ge}
 use Rattle.txset.proofs.Bits.{has_ext, has_or, has_pow, has_nil}
 use Rattle.txset.proofs.Words.{has_in_low}
-use Rattle.texts.specs.declared.numerals.Number.{Number}
-use Rattle.texts.specs.declared.numerals.Number.TheVariants.{Value, Malformed}
 use Rattle.texts.specs.Numerals.{number_of, number_in, are_numbers}
 use Rattle.texts.specs.Places.{before, place_of, split}
 use Rattle.texts.proofs.Places.{split_first, split_last, split_more}
-use Rattle.cluster_reader.specs.declared.Parents.TheVariants as parents
 use Rattle.cluster_reader.specs.Reading.{parts, word_of}
 use Rattle.cluster_reader.specs.Steps.{parents_in}
 
@@ -57,9 +55,9 @@ word_insert s t p hs ht e = ⊎_elim held left_out (lt_or_ge p positions)
         (has_ext 64 t.word s.word ht hs
         (λ i k. at i k ∙ ap (λ (b : Bool). has s.word i || b) (ne_eqb i p (λ q. omega arith)) ∙ or-false (has s.word i)))
 
-word_next : (w p : ℕ) (l : List ℕ) (ls : List (List ℕ)) → number_of l ≡ Value p → word_of w (l ∷ ls) ≡ word_of (word_with w p) ls
+word_next : (w p : ℕ) (l : List ℕ) (ls : List (List ℕ)) → number_of l ≡ Some p → word_of w (l ∷ ls) ≡ word_of (word_with w p) ls
 unfolding word_of
-word_next w p l ls e = ap (λ (n : Number). word_of (word_with w (number_in n)) ls) e
+word_next w p l ls e = ap (λ (n : Option ℕ). word_of (word_with w (number_in n)) ls) e
 
 -- ---- the loop: the parts before `from` are read, and the set has what they name
 
@@ -69,9 +67,9 @@ pub record Named (text : List ℕ) (set : TxSet) (from : ℕ) : Type 0 where
   pub numbers : are_numbers (parts text) ≡ are_numbers (split 44 (drop from text))
   pub word : word_of 0 (parts text) ≡ word_of set.word (split 44 (drop from text))
 
-pub nothing : (text : List ℕ) (s : TxSet) → length text ≡ 0 → s.word ≡ 0 → parents_in text ≡ parents.Set s
+pub nothing : (text : List ℕ) (s : TxSet) → length text ≡ 0 → s.word ≡ 0 → parents_in text ≡ Some s
 unfolding parents_in parts are_numbers all_of word_of
-nothing [] s e w = ap {B = parents.the_data} (λ (n : ℕ). parents.Set (record { word = n })) (sym w)
+nothing [] s e w = ap {B = Option TxSet} (λ (n : ℕ). Some (record { word = n })) (sym w)
 nothing (x ∷ text) s e w = absurd (omega arith)
 
 pub start : (text : List ℕ) (s : TxSet) → (length text ≡ 0 → ⊥) → s.word ≡ 0 → Named text s 0
@@ -89,17 +87,17 @@ module _ {text : List ℕ} {set : TxSet} {from : ℕ} (s : Named text set from) 
   rest = drop from text
 
   -- a part that is no number
-  pub bad_part : number_of (before 44 rest) ≡ Malformed → parents_in text ≡ parents.Malformed
+  pub bad_part : number_of (before 44 rest) ≡ None → parents_in text ≡ None
   unfolding parents_in are_numbers all_of
   bad_part e = rw (s.numbers, split_first 44 rest, e)
 
-  module _ (p : ℕ) (is : number_of (before 44 rest) ≡ Value p) (t : TxSet) (fits : t.word < 2 ^ 64) (with : t.word ≡ word_with set.word p) where
+  module _ (p : ℕ) (is : number_of (before 44 rest) ≡ Some p) (t : TxSet) (fits : t.word < 2 ^ 64) (with : t.word ≡ word_with set.word p) where
     -- the last part
-    pub last : place_of 44 text from ≡ length text → parents_in text ≡ parents.Set t
+    pub last : place_of 44 text from ≡ length text → parents_in text ≡ Some t
     unfolding parents_in are_numbers all_of word_of
     last e =
         rw (s.numbers, s.word, split_last 44 text from e, is)
-        (ap {B = parents.the_data} (λ (n : ℕ). parents.Set (record { word = n })) (sym with))
+        (ap {B = Option TxSet} (λ (n : ℕ). Some (record { word = n })) (sym with))
 
     -- a part with a comma behind it
     pub turn : place_of 44 text from < length text → Named text t (place_of 44 text from + 1)

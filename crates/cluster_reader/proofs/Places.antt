@@ -1,20 +1,19 @@
 -- Laws of specs/Lines.antt, at a place of the text. Assumes nothing.
 use mathlib.Core.Path.{◌≡◌, refl, sym, ap, ap₂, ◌∙◌}
-use mathlib.Core.Bool.{true, false, and-false}
+use mathlib.Core.Bool.{true, false, ◌&&◌, and-false}
 use mathlib.Core.List.{List, [], ◌∷◌, ◌++◌}
 use Prim.Native.Nat.{ℕ, zero, suc, ◌+◌, ◌-◌, ◌≤◌, ◌<◌}
 use native.Mathlib.Nat.{sub-zero, zero-sub, suc-sub-suc}
-use native.Mathlib.Numerals.{add-one}
 use native.Mathlib.Omega.{arith}
 use lib.Dec.{eqb, ltb, leb}
-use lib.ListN.{length, get_or, take, drop, drop_of_length-le, length-drop, length-append}
-use lib.Seq.{drop-cons, drop-drop, take-nil}
-use borrow.Author.Tests.{le-leb, lt-leb, lt-ltb, le-ltb, eq-eqb, ne_eqb, ltb-true, leb-true}
-use Rattle.lists.proofs.Bools.{clash, and_both, cond_first, cond_second}
+use lib.ListN.{length, take, drop, length-drop, length-append}
+use lib.Seq.{drop-drop, take-nil}
+use borrow.Author.Tests.{le-leb, lt-leb, lt-ltb, le-ltb, eq-eqb, ne_eqb, eqb-true, eqb-false, ltb-true, leb-true}
+use Rattle.std.proofs.Common.{Some, None}
+use Rattle.std.specs.Cmp.Lexicographic.{pointwise}
+use Rattle.lists.proofs.Bools.{clash, cases, and_both, cond_first, cond_second}
 use Rattle.texts.specs.Places.{before, behind, place_of}
 use Rattle.texts.proofs.Places.{before_take, before_append, before_grows, place_behind}
-use Rattle.cluster_reader.specs.declared.lines.Line.TheVariants.{Ends, Malformed}
-use Rattle.cluster_reader.specs.declared.lines.Value.TheVariants as value
 use Rattle.cluster_reader.specs.declared.lines.Span.{Span}
 use Rattle.cluster_reader.specs.Lines.{is_line, longest_line, starts, is_field, value_of}
 use Rattle.cluster_reader.specs.Steps.{line_at, field_at, has_end}
@@ -28,15 +27,15 @@ module _ (text : List ℕ) (from : ℕ) where
   abbrev size : ℕ
   size = length (before 10 left)
 
-  pub line_open : length text ≤ place_of 10 text from → line_at text from ≡ Malformed
+  pub line_open : length text ≤ place_of 10 text from → line_at text from ≡ None
   unfolding line_at is_line
   line_open l = rw (le-ltb size (length left) (simp length-drop (omega arith)))
 
-  pub line_long : 1024 < place_of 10 text from - from → line_at text from ≡ Malformed
+  pub line_long : 1024 < place_of 10 text from - from → line_at text from ≡ None
   unfolding line_at is_line
   line_long l = rw (lt-leb size 1024 (omega arith), and-false (ltb size (length left)))
 
-  pub line_whole : place_of 10 text from < length text → place_of 10 text from - from ≤ 1024 → line_at text from ≡ Ends (place_of 10 text from)
+  pub line_whole : place_of 10 text from < length text → place_of 10 text from - from ≤ 1024 → line_at text from ≡ Some (place_of 10 text from)
   unfolding line_at is_line
   line_whole l h = rw (lt-ltb size (length left) (simp length-drop (omega arith)), le-leb size 1024 (omega arith))
 
@@ -70,23 +69,15 @@ only_long text l = rw (le-ltb (length (before 10 text)) (length text) (omega ari
 
 -- ---- keys
 
-pub starts_none : (key line : List ℕ) (i : ℕ) → length key ≤ i → starts (drop i key) (drop i line) ≡ true
+eqb_turned : (m n : ℕ) → eqb m n ≡ eqb n m
+eqb_turned m n = cases (eqb m n) (λ e. e ∙ sym (eq-eqb n m (sym (eqb-true m n e)))) (λ e. e ∙ sym (ne_eqb n m (λ q. eqb-false m n e (sym q))))
+
+-- a test of the whole key at once
+pub starts_whole : (key line : List ℕ) → starts key line ≡ pointwise eqb key (take (length key) line)
 unfolding starts
-starts_none key line i l = rw (drop_of_length-le key l)
-
-module _ (key line : List ℕ) (i : ℕ) (more : i < length key) where
-  pub starts_short : length line ≤ i → starts (drop i key) (drop i line) ≡ false
-  unfolding starts
-  starts_short l = rw (drop-cons key i 0 more, drop_of_length-le line l)
-
-  module _ (l : i < length line) where
-    pub starts_other : (get_or line i 0 ≡ get_or key i 0 → ⊥) → starts (drop i key) (drop i line) ≡ false
-    unfolding starts
-    starts_other n = rw (drop-cons key i 0 more, drop-cons line i 0 l, ne_eqb (get_or line i 0) (get_or key i 0) n)
-
-    pub starts_turn : get_or line i 0 ≡ get_or key i 0 → starts (drop i key) (drop i line) ≡ starts (drop (i + 1) key) (drop (i + 1) line)
-    unfolding starts
-    starts_turn e = rw (drop-cons key i 0 more, drop-cons line i 0 l, eq-eqb (get_or line i 0) (get_or key i 0) e, add-one)
+starts_whole [] line = refl
+starts_whole (k ∷ ks) [] = refl
+starts_whole (k ∷ ks) (x ∷ xs) = ap₂ ◌&&◌ (eqb_turned x k) (starts_whole ks xs)
 
 starts_length : (key line : List ℕ) → starts key line ≡ true → length key ≤ length line
 unfolding starts
@@ -109,30 +100,30 @@ pub record Whole (text : List ℕ) (from end : ℕ) : Type 0 where
   pub at : end ≡ place_of 10 text from
   pub inside : end < length text
 
-pub line_ends : (text : List ℕ) (from end : ℕ) → line_at text from ≡ Ends end → Whole text from end
+pub line_ends : (text : List ℕ) (from end : ℕ) → line_at text from ≡ Some end → Whole text from end
 unfolding line_at
 line_ends text from end h =
     let p = cond_first (is_line (drop from text)) h (λ e. let z : ◌≡◌ {A = ℕ} 0 1 = cc in omega arith) in
     let e : end ≡ place_of 10 text from = cc in
     record { line = p.0; at = e; inside = omega (arith, line_inside (drop from text) p.0, length-drop from text) }
 
-pub line_malformed : (text : List ℕ) (from : ℕ) → line_at text from ≡ Malformed → is_line (drop from text) ≡ false
+pub line_malformed : (text : List ℕ) (from : ℕ) → line_at text from ≡ None → is_line (drop from text) ≡ false
 unfolding line_at
 line_malformed text from h = (cond_second (is_line (drop from text)) h (λ e. let z : ◌≡◌ {A = ℕ} 0 1 = cc in omega arith)).0
 
 -- ---- a field: a line with its key
 
 module _ (key text : List ℕ) (from : ℕ) where
-  pub field_no_line : is_line (drop from text) ≡ false → field_at key text from ≡ value.Malformed
+  pub field_no_line : is_line (drop from text) ≡ false → field_at key text from ≡ None
   unfolding field_at is_field
   field_no_line e = rw e
 
-  pub field_no_key : starts key (before 10 (drop from text)) ≡ false → field_at key text from ≡ value.Malformed
+  pub field_no_key : starts key (before 10 (drop from text)) ≡ false → field_at key text from ≡ None
   unfolding field_at is_field
   field_no_key e = rw (e, and-false (is_line (drop from text)))
 
   pub field_found : {end : ℕ} → Whole text from end → starts key (before 10 (drop from text)) ≡ true
-      → field_at key text from ≡ value.Between (record { start = from + length key; end = end })
+      → field_at key text from ≡ Some (record { start = from + length key; end = end })
   unfolding field_at is_field
   field_found w e = rw (w.line, e, w.at)
 
@@ -155,7 +146,7 @@ pub record Field (key xs text : List ℕ) (from start end : ℕ) : Type 0 where
   pub next : drop (end + 1) text ≡ behind 10 xs
 
 module _ (key text : List ℕ) (from : ℕ) {xs : List ℕ} (here : drop from text ≡ xs) where
-  pub field_between : (s : Span) → field_at key text from ≡ value.Between s → Field key xs text from s.start s.end
+  pub field_between : (s : Span) → field_at key text from ≡ Some s → Field key xs text from s.start s.end
   unfolding field_at is_field
   field_between s h =
       let p = cond_first (is_field key (drop from text)) h (λ e. let z : ◌≡◌ {A = ℕ} 0 1 = cc in omega arith) in
@@ -172,7 +163,7 @@ module _ (key text : List ℕ) (from : ℕ) {xs : List ℕ} (here : drop from te
         next = rw (sym en) (place_behind 10 text from) ∙ ap (behind 10) here;
       }
 
-  pub field_malformed : field_at key text from ≡ value.Malformed → is_field key xs ≡ false
+  pub field_malformed : field_at key text from ≡ None → is_field key xs ≡ false
   unfolding field_at
   field_malformed h =
       ap (is_field key) (sym here) ∙ (cond_second (is_field key (drop from text)) h (λ e. let z : ◌≡◌ {A = ℕ} 0 1 = cc in omega arith)).0

@@ -1,12 +1,13 @@
 -- Document 01, "The cluster program": what it reads. "`n=`, then for each position `fee=`, `size=`, `parents=` (commas, may be empty,
 -- repeats count once)". Assumes nothing.
-use Rattle.std.specs.Prelude.{ℕ, zero, suc, ◌^◌, Bool, cond, ◌&&◌, List, [], ◌∷◌, ◌++◌, ltb, ℤ, length}
+use Rattle.std.specs.Prelude.{ℕ, zero, suc, ◌^◌, Bool, cond, ◌&&◌, List, [], ◌∷◌, ◌++◌, ltb, ℤ, length, Result, Ok, Err}
 use Rattle.std.specs.Int.Bits.{bit_or}
 use Rattle.txset.specs.Sets.{positions}
 use Rattle.texts.specs.Numerals.{is_nil, number_of, is_number, number_in, are_numbers, signed_of, is_signed, signed_in}
 use Rattle.texts.specs.Places.{behind, split}
-use Rattle.cluster_reader.specs.declared.Input.{Input}
-use Rattle.cluster_reader.specs.declared.Input.TheVariants as input
+use Rattle.refusals.specs.declared.Refusal.{Refusal}
+use Rattle.refusals.specs.declared.Refusal.TheVariants.{TooManyMembers, InputIllFormed}
+use Rattle.refusals.specs.Refusals.{number_of as refusal_number}
 use Rattle.cluster_reader.specs.Lines.{is_field, value_of}
 
 -- the keys, as bytes: "n=", "fee=", "size=", "parents="
@@ -80,11 +81,10 @@ pub record Told : Type 0 where
   pub number : ℕ
   pub count : ℕ
 
--- what each case of the enum stands for
-abbrev pub told : Input → Told
-told (input.Members n) = record { number = 0; count = n }
-told input.TooMany = record { number = 2; count = 0 }
-told input.Malformed = record { number = 13; count = 0 }
+-- what each case of the answer stands for
+abbrev pub told : Result ℕ Refusal → Told
+told (Ok n) = record { number = 0; count = n }
+told (Err r) = record { number = refusal_number r; count = 0 }
 
 -- what a text that was read so is answered with
 abbrev pub read_told : Read → Told
@@ -95,5 +95,5 @@ read_told (cluster fs ss ps) = record { number = 0; count = length fs }
 unfoldable pub first_told : List ℕ → Told
 first_told xs =
     cond (is_field n_key xs && is_number (number_of (value_of n_key xs)))
-    (cond (ltb positions (number_in (number_of (value_of n_key xs)))) (told input.TooMany) (told (input.Members (number_in (number_of (value_of n_key xs))))))
-    (told input.Malformed)
+    (cond (ltb positions (number_in (number_of (value_of n_key xs)))) (told (Err TooManyMembers)) (told (Ok (number_in (number_of (value_of n_key xs))))))
+    (told (Err InputIllFormed))

@@ -14,8 +14,8 @@ use Rattle.refusals.specs.declared.Reply.{Reply}
 use Rattle.refusals.specs.Refusals.{answer_of, success, refusal}
 use Rattle.refusals.proofs.Lines.{Takes, succeeds, writes, answered}
 use Rattle.linearize.specs.Linearize.{refusals, linear_order, reply, room_after}
-use Rattle.cluster_reader.specs.declared.Input.{Input}
-use Rattle.cluster_reader.specs.declared.Input.TheVariants.{Members}
+use Rattle.refusals.specs.declared.Refusal.{Refusal}
+use Rattle.std.proofs.Common.{Result, Ok}
 use Rattle.cluster_reader.specs.Reading.{Read, refused, cluster, read, Told, told, read_told}
 use Rattle.cluster_reader.specs.Calls.{fees_after, sizes_after, parents_after}
 use Rattle.cluster_reader.proofs.Lengths.{read_whole, read_refused}
@@ -106,9 +106,9 @@ pub record Given (text : List ℕ) (n : ℕ) (fees : List ℤ) (sizes parents : 
   pub sizes_are : Starts ss sizes n
   pub parents_are : Starts ps parents n
 
-module _ (text : List ℕ) {i : Input} (e : told i ≡ read_told (read text)) where
+module _ (text : List ℕ) {i : Result ℕ Refusal} (e : told i ≡ read_told (read text)) where
   -- it was refused, with a number that is not 0
-  pub refused_input : {j : Input} → i ≡ j → ((told j).number ≡ 0 → ⊥) → refusal_text (told j).number ≡ response text
+  pub refused_input : {j : Result ℕ Refusal} → i ≡ j → ((told j).number ≡ 0 → ⊥) → refusal_text (told j).number ≡ response text
   unfolding response
   refused_input {j} f n = go (read text) (ap (λ (t : Told). t.number) (sym (ap told f) ∙ e))
     where
@@ -119,7 +119,7 @@ module _ (text : List ℕ) {i : Input} (e : told i ≡ read_told (read text)) wh
   -- it gave n members, and the arrays start with them
   module _
       {n : ℕ}
-      (f : i ≡ Members n)
+      (f : i ≡ Ok n)
       (fees₀ fees : List ℤ)
       (sizes₀ parents₀ sizes parents : List ℕ)
       (x : fees ≡ fees_after (read text) fees₀)
@@ -128,7 +128,7 @@ module _ (text : List ℕ) {i : Input} (e : told i ≡ read_told (read text)) wh
     pub members_read : Given text n fees sizes parents
     members_read = go (read text) refl (sym (ap told f) ∙ e) x y z
       where
-        go : (r : Read) → read text ≡ r → told (Members n) ≡ read_told r → fees ≡ fees_after r fees₀ → sizes ≡ sizes_after r sizes₀ → parents ≡ parents_after r parents₀
+        go : (r : Read) → read text ≡ r → told (Ok n) ≡ read_told r → fees ≡ fees_after r fees₀ → sizes ≡ sizes_after r sizes₀ → parents ≡ parents_after r parents₀
             → Given text n fees sizes parents
         go (refused k) is h a b c = absurd (omega (arith, read_refused text is, ap (λ (t : Told). t.number) h))
         go (cluster fs ss ps) is h a b c =

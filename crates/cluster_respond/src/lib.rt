@@ -7,7 +7,6 @@ ghost use Rattle.txset.specs.Sets.{positions};
 ghost use Rattle.lists.specs.Lists.{overwrite};
 ghost use Rattle.cluster_respond.specs.Program.{response, cluster_text};
 
-use cluster_reader::Input;
 use txset::{POSITIONS, SET_WORDS};
 
 // Puts what is printed for an input at the start of `out`, and answers how many bytes that is.
@@ -18,11 +17,9 @@ pub fn respond(text: &[u8], out: &mut [u8; 8192]) -> usize
     let mut fees = [0i64; POSITIONS];
     let mut sizes = [0u64; POSITIONS];
     let mut parents = [0u64; SET_WORDS];
-    let input = cluster_reader::read_cluster(text, &mut fees, &mut sizes, &mut parents);
-    match input {
-        Input::Malformed => cluster_writer::write_refusal(refusals::INPUT_ILL_FORMED, out),
-        Input::TooMany => cluster_writer::write_refusal(refusals::TOO_MANY_MEMBERS, out),
-        Input::Members(n) => respond_cluster(&fees[..n], &sizes[..n], &parents[..n], out),
+    match cluster_reader::read_cluster(text, &mut fees, &mut sizes, &mut parents) {
+        Ok(n) => respond_cluster(&fees[..n], &sizes[..n], &parents[..n], out),
+        Err(refusal) => cluster_writer::write_refusal(refusal.number(), out),
     }
 }
 
@@ -33,12 +30,12 @@ fn respond_cluster(fees: &[i64], sizes: &[u64], parents: &[u64], out: &mut [u8; 
     ensures out_after { out.new ≡ overwrite (cluster_text fees.now sizes.now parents.now) out.old }
 {
     let mut order = [0usize; POSITIONS];
-    let reply = linearize::linearize(fees, sizes, parents, &mut order);
-    if reply.answer != 0 {
-        return cluster_writer::write_refusal(reply.answer, out);
+    match linearize::linearize(fees, sizes, parents, &mut order) {
+        Ok(n) => {
+            let mut lens = [0usize; POSITIONS];
+            let count = chunking::order_lengths(fees, sizes, &order[..n], &mut lens);
+            cluster_writer::write_success(fees, sizes, &order[..n], &lens[..count], out)
+        }
+        Err(refused) => cluster_writer::write_refusal(refused.number(), out),
     }
-    let n = reply.written;
-    let mut lens = [0usize; POSITIONS];
-    let count = chunking::order_lengths(fees, sizes, &order[..n], &mut lens);
-    cluster_writer::write_success(fees, sizes, &order[..n], &lens[..count], out)
 }

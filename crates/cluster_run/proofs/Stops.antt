@@ -10,7 +10,7 @@ use Rattle.cluster_run.specs.declared.reads.End.{End}
 use Rattle.cluster_run.specs.declared.reads.Failure.{Failure}
 use Rattle.cluster_run.specs.declared.Stop.{Stop}
 use Rattle.cluster_run.specs.declared.Stop.TheVariants as stop
-use Rattle.cluster_run.specs.declared.Text.TheVariants as text
+use Rattle.std.proofs.Common.{Some}
 use Rattle.cluster_run.specs.Stops.{Gave, Stopped, text_read}
 
 -- so many were read, or none, or the read failed
@@ -24,7 +24,7 @@ pub gave_failure : (from most : ℕ) {failure : Failure} {g : Got} → Gave from
 gave_failure from most h e = subst (Gave from most) e h
 
 -- the bytes that the answer goes by lie within the room
-pub stop_within : (room : List ℕ) (s : Stop) {n : ℕ} → Stopped room s → text_read s ≡ text.Bytes n → n ≤ length room
+pub stop_within : (room : List ℕ) (s : Stop) {n : ℕ} → Stopped room s → text_read s ≡ Some n → n ≤ length room
 stop_within room (stop.Ended e) {n} h q = let p : e.at ≡ n = cc in omega arith
 stop_within room (stop.Full m) {n} h q = let p : m ≡ n = cc in omega arith
 stop_within room (stop.Decided m) {n} h q = let p : m ≡ n = cc in omega arith

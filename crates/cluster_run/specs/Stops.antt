@@ -1,13 +1,11 @@
 -- What the program's reads promise: why it stops reading, and that what was read lies within its room. That a read gave nothing, or
 -- failed, shows in no contract; `End` and `Failure` stand for it, which only `read_more` can make. Assumes nothing.
-use Rattle.std.specs.Prelude.{ℕ, ◌+◌, ◌≤◌, ◌<◌, ◌≡◌, true, List, length, take}
+use Rattle.std.specs.Prelude.{ℕ, ◌+◌, ◌≤◌, ◌<◌, ◌≡◌, true, List, length, take, Option, Some, None}
 use Rattle.cluster_reader.specs.Calls.{is_decided}
 use Rattle.cluster_run.specs.declared.reads.Got.{Got}
 use Rattle.cluster_run.specs.declared.reads.Got.TheVariants as got
 use Rattle.cluster_run.specs.declared.Stop.{Stop}
 use Rattle.cluster_run.specs.declared.Stop.TheVariants as stop
-use Rattle.cluster_run.specs.declared.Text.{Text}
-use Rattle.cluster_run.specs.declared.Text.TheVariants as text
 
 -- a read behind `from` bytes gave some, for which there is a place among `most`; or it gave none there, or failed there
 abbrev pub Gave : ℕ → ℕ → Got → Type 0
@@ -23,8 +21,8 @@ Stopped text (stop.Decided n) = (n ≤ length text) × (is_decided (take n text)
 Stopped text (stop.Failed f) = f.at < length text
 
 -- how many bytes the answer goes by: those that were read, unless a read failed
-abbrev pub text_read : Stop → Text
-text_read (stop.Ended e) = text.Bytes e.at
-text_read (stop.Full n) = text.Bytes n
-text_read (stop.Decided n) = text.Bytes n
-text_read (stop.Failed f) = text.Unknown
+abbrev pub text_read : Stop → Option ℕ
+text_read (stop.Ended e) = Some e.at
+text_read (stop.Full n) = Some n
+text_read (stop.Decided n) = Some n
+text_read (stop.Failed f) = None

@@ -22,17 +22,10 @@ enum Stop {
     Failed(Failure),
 }
 
-// How many bytes the answer goes by, or that the input is not known.
-#[derive(Clone, Copy)]
-enum Text {
-    Bytes(usize),
-    Unknown,
-}
-
 // Where a read fails, nothing is known of the input, and nothing is printed.
 pub fn run(rt: &HostRuntime) {
     let mut text = room();
-    let Text::Bytes(len) = text_read(read_input(rt, &mut text)) else {
+    let Some(len) = text_read(read_input(rt, &mut text)) else {
         return;
     };
     let mut out = [0u8; 8192];
@@ -49,14 +42,15 @@ fn room() -> [u8; 197_826]
     [0; 197_826]
 }
 
-fn text_read(stop: Stop) -> Text
+// How many bytes the answer goes by, where the input is known.
+fn text_read(stop: Stop) -> Option<usize>
     ensures { result ≡ text_read stop }
 {
     match stop {
-        Stop::Ended(end) => Text::Bytes(end.bytes()),
-        Stop::Full(len) => Text::Bytes(len),
-        Stop::Decided(len) => Text::Bytes(len),
-        Stop::Failed(_) => Text::Unknown,
+        Stop::Ended(end) => Some(end.bytes()),
+        Stop::Full(len) => Some(len),
+        Stop::Decided(len) => Some(len),
+        Stop::Failed(_) => None,
     }
 }
 

@@ -3,7 +3,7 @@
 
 #![tactic(auto)]
 
-ghost use Rattle.std.specs.Prelude.{◌≡◌, ◌+◌, ◌≤◌, min, length};
+ghost use Rattle.std.specs.Prelude.{◌≡◌, length};
 ghost use Rattle.lists.specs.Lists.{overwrite};
 ghost use Rattle.texts.specs.Writing.{signed, commas, text_line};
 ghost use Rattle.texts.specs.Rooms.{Writes};
@@ -67,28 +67,14 @@ fn chunk_lines(
 {
     let mut at = from;
     let mut start: usize = 0;
-    let mut k: usize = 0;
-    // The lines of the first k chunks are written, up to `at`; the next chunk starts at `start`.
-    while k < lens.len() {
-        let len = lens[k];
-        let end = chunk_end(start, len, order.len());
+    // The lines of the chunks passed are written, up to `at`; the next chunk starts at `start`.
+    for &len in lens {
+        let end = start.saturating_add(len).min(order.len());
         let rate = list_feerate(fees, sizes, &order[start..end]);
         at = one_chunk(len, rate, out, at);
         start = end;
-        k += 1;
     }
     at
-}
-
-// Where a chunk of `len` members ends that starts at `start`, in an order of `count`.
-fn chunk_end(start: usize, len: usize, count: usize) -> usize
-    requires { start ≤ count }
-    ensures { result ≡ min (start + len) count }
-{
-    if len < count - start {
-        return start + len;
-    }
-    count
 }
 
 // A chunk's two lines.
@@ -103,24 +89,14 @@ fn one_chunk(len: usize, rate: FeeFrac, out: &mut [u8], from: usize) -> usize
 pub fn shown_rate(rate: FeeFrac) -> i64
     ensures { result ≡ shown_rate rate }
 {
-    let size = rate.size;
-    if size == 0 {
+    if rate.size == 0 {
         return 0;
     }
-    let fee = rate.fee;
-    if fee < 0 {
-        let less = 0 - (fee + 1);
-        let q = scaled_over(less as u64 + 1, 4000, size);
-        if 9_223_372_036_854_775_807 < q {
-            return i64::MIN;
-        }
-        return 0 - (q as i64);
+    let q = scaled_over(rate.fee.unsigned_abs(), 4000, rate.size);
+    if rate.fee < 0 {
+        return 0i64.saturating_sub_unsigned(q);
     }
-    let q = scaled_over(fee as u64, 4000, size);
-    if 9_223_372_036_854_775_807 < q {
-        return i64::MAX;
-    }
-    q as i64
+    0i64.saturating_add_unsigned(q)
 }
 
 fn rate_line(rate: i64, out: &mut [u8], from: usize) -> usize

@@ -11,7 +11,7 @@ use lib.ListN.{length, get_or, take, drop}
 use borrow.Author.Tests.{le-leb, lt-leb, eq-eqb, ne_eqb, eqb-true, eqb-false}
 use Rattle.lists.proofs.Bools.{cases, and_both}
 use Rattle.lists.specs.Lists.{all_of, same}
-use Rattle.texts.specs.declared.numerals.Signed.TheVariants as signed
+use Rattle.std.proofs.Common.{Some, None}
 use Rattle.texts.specs.Numerals.{are_numbers, signed_of}
 use Rattle.texts.specs.Places.{before, place_of, split}
 use Rattle.texts.proofs.Places.{before_take}
@@ -46,34 +46,34 @@ first_within line l end h = record { short = l; within = omega arith }
 
 -- ---- numbers alone
 
-module _ (ws : List (List ℕ)) (values : List ℕ) where
-  pub no_make : length values ≡ 4 → (eqb (length ws) (length values) && are_numbers ws) ≡ false → as_make ws ≡ malformed
+module _ (ws : List (List ℕ)) where
+  pub no_make : (eqb (length ws) 4 && are_numbers ws) ≡ false → as_make ws ≡ malformed
   unfolding as_make
-  no_make l e = let f : (eqb (length ws) 4 && are_numbers ws) ≡ false = rw l at e in rw f
+  no_make e = rw e
 
-  pub is_make : length values ≡ 4 → (eqb (length ws) (length values) && are_numbers ws) ≡ true → values ≡ numbers_in ws
-      → as_make ws
-      ≡ make (get_or values 0 0) (record { count = get_or values 1 0; size = get_or values 2 0; bytes_per_sigop = get_or values 3 0 })
-  unfolding as_make
-  is_make l e v = let f : (eqb (length ws) 4 && are_numbers ws) ≡ true = rw l at e in rw (f, v)
-
-  pub no_mark : length values ≡ 2 → (eqb (length ws) (length values) && are_numbers ws) ≡ false → as_mark ws ≡ malformed
+  pub no_mark : (eqb (length ws) 2 && are_numbers ws) ≡ false → as_mark ws ≡ malformed
   unfolding as_mark
-  no_mark l e = let f : (eqb (length ws) 2 && are_numbers ws) ≡ false = rw l at e in rw f
+  no_mark e = rw e
 
-  pub is_mark : length values ≡ 2 → (eqb (length ws) (length values) && are_numbers ws) ≡ true → values ≡ numbers_in ws
-      → as_mark ws ≡ mark (get_or values 0 0) (get_or values 1 0)
-  unfolding as_mark
-  is_mark l e v = let f : (eqb (length ws) 2 && are_numbers ws) ≡ true = rw l at e in rw (f, v)
-
-  pub no_terms : length values ≡ 3 → (eqb (length ws) (length values) && are_numbers ws) ≡ false → as_template ws ≡ malformed
+  pub no_terms : (eqb (length ws) 3 && are_numbers ws) ≡ false → as_template ws ≡ malformed
   unfolding as_template
-  no_terms l e = let f : (eqb (length ws) 3 && are_numbers ws) ≡ false = rw l at e in rw f
+  no_terms e = rw e
 
-  pub is_terms : length values ≡ 3 → (eqb (length ws) (length values) && are_numbers ws) ≡ true → values ≡ numbers_in ws
-      → as_template ws ≡ template (record { budget = record { 0 = get_or values 0 0 }; reserve = get_or values 1 0; minimum = get_or values 2 0 })
-  unfolding as_template
-  is_terms l e v = let f : (eqb (length ws) 3 && are_numbers ws) ≡ true = rw l at e in rw (f, v)
+  module _ (values : List ℕ) (v : values ≡ numbers_in ws) where
+    pub is_make : (eqb (length ws) 4 && are_numbers ws) ≡ true
+        → as_make ws
+        ≡ make (get_or values 0 0) (record { count = get_or values 1 0; size = get_or values 2 0; bytes_per_sigop = get_or values 3 0 })
+    unfolding as_make
+    is_make e = rw (e, v)
+
+    pub is_mark : (eqb (length ws) 2 && are_numbers ws) ≡ true → as_mark ws ≡ mark (get_or values 0 0) (get_or values 1 0)
+    unfolding as_mark
+    is_mark e = rw (e, v)
+
+    pub is_terms : (eqb (length ws) 3 && are_numbers ws) ≡ true
+        → as_template ws ≡ template (record { budget = record { 0 = get_or values 0 0 }; reserve = get_or values 1 0; minimum = get_or values 2 0 })
+    unfolding as_template
+    is_terms e = rw (e, v)
 
 -- ---- a txid first
 
@@ -95,25 +95,22 @@ unfolding as_set_cost
 no_txid_cost [] e = refl
 no_txid_cost (w ∷ ws) e = rw (e, and-false (eqb (length (w ∷ ws)) 2))
 
-module _ (w : List ℕ) (ws : List (List ℕ)) (values : List ℕ) (long : length values ≡ 1) where
-  pub no_cost : (eqb (length ws) (length values) && are_numbers ws) ≡ false → as_set_cost (w ∷ ws) ≡ malformed
+module _ (w : List ℕ) (ws : List (List ℕ)) where
+  pub no_cost : (eqb (length ws) 1 && are_numbers ws) ≡ false → as_set_cost (w ∷ ws) ≡ malformed
   unfolding as_set_cost
-  no_cost e = cases (eqb (length ws) 1) as_many (λ g. rw (ne_eqb (length (w ∷ ws)) 2 (λ q. eqb-false (length ws) 1 g (omega arith))))
+  no_cost f = cases (eqb (length ws) 1) as_many (λ g. rw (ne_eqb (length (w ∷ ws)) 2 (λ q. eqb-false (length ws) 1 g (omega arith))))
     where
-      f : (eqb (length ws) 1 && are_numbers ws) ≡ false
-      f = rw long at e
-
       as_many : eqb (length ws) 1 ≡ true → as_set_cost (w ∷ ws) ≡ malformed
       as_many t =
           let n : are_numbers ws ≡ false = rw t at f in
           rw (n, and-false (is_hex64 w), and-false (eqb (length (w ∷ ws)) 2))
 
-  pub is_cost : is_hex64 w ≡ true → (eqb (length ws) (length values) && are_numbers ws) ≡ true → values ≡ numbers_in ws
+  pub is_cost : (values : List ℕ) → is_hex64 w ≡ true → (eqb (length ws) 1 && are_numbers ws) ≡ true → values ≡ numbers_in ws
       → as_set_cost (w ∷ ws) ≡ set_cost (txid_at (hex_bytes w) 0) (get_or values 0 0)
   unfolding as_set_cost numbers_in
-  is_cost h e v =
-      let f = and_both (eqb (length ws) (length values)) (are_numbers ws) e in
-      rw (h, f.1, v, eq-eqb (length (w ∷ ws)) 2 (omega (arith, eqb-true (length ws) (length values) f.0, long)))
+  is_cost values h e v =
+      let f = and_both (eqb (length ws) 1) (are_numbers ws) e in
+      rw (h, f.1, v, eq-eqb (length (w ∷ ws)) 2 (omega (arith, eqb-true (length ws) 1 f.0)))
 
 pub no_txid_add : (ws : List (List ℕ)) → starts_txid ws ≡ false → as_add ws ≡ malformed
 unfolding as_add
@@ -166,13 +163,13 @@ module _ (v : List ℕ) where
   slot_more (a ∷ []) u rest l = rw (ne_eqb (length (a ∷ v ∷ u ∷ rest)) 2 (λ e. omega arith))
   slot_more (a ∷ b ∷ read) u rest l = absurd (omega arith)
 
-  pub no_sats : (read : List (List ℕ)) → length read ≡ 1 → signed_of v ≡ signed.Malformed → as_delta (read ++ (v ∷ [])) ≡ malformed
+  pub no_sats : (read : List (List ℕ)) → length read ≡ 1 → signed_of v ≡ None → as_delta (read ++ (v ∷ [])) ≡ malformed
   unfolding as_delta
   no_sats [] l e = absurd (omega arith)
   no_sats (a ∷ []) l e = rw (e, and-false (are_numbers (a ∷ [])))
   no_sats (a ∷ b ∷ read) l e = absurd (omega arith)
 
-  pub is_delta : (read : List (List ℕ)) (z : ℤ) → length read ≡ 1 → are_numbers read ≡ true → signed_of v ≡ signed.Value z
+  pub is_delta : (read : List (List ℕ)) (z : ℤ) → length read ≡ 1 → are_numbers read ≡ true → signed_of v ≡ Some z
       → as_delta (read ++ (v ∷ [])) ≡ delta (get_or (numbers_in read) 0 0) z
   unfolding as_delta numbers_in
   is_delta [] z l n e = absurd (omega arith)

@@ -1,13 +1,9 @@
 -- What the crate's own functions answer, at a place of the line: no contract outside this crate cites these. Assumes nothing.
-use Rattle.std.specs.Prelude.{ℕ, zero, suc, ◌+◌, ◌≤◌, ◌≡◌, Bool, true, false, cond, ◌&&◌, List, [], ◌∷◌, ◌++◌, leb, length, take, drop}
+use Rattle.std.specs.Prelude.{ℕ, zero, suc, ◌+◌, ◌≤◌, ◌≡◌, Bool, true, false, cond, ◌&&◌, List, [], ◌∷◌, ◌++◌, leb, length, take, drop, Option, Some, None}
 use Rattle.texts.specs.Numerals.{number_of, is_number, are_numbers}
 use Rattle.texts.specs.Places.{split}
 use Rattle.texts.specs.Rooms.{Wrote}
 use Rattle.texts.specs.Hex.{is_hex64, hex_bytes}
-use Rattle.pool_reader.specs.declared.words.Next.{Next}
-use Rattle.pool_reader.specs.declared.words.Next.TheVariants as next
-use Rattle.pool_reader.specs.declared.words.Listed.{Listed}
-use Rattle.pool_reader.specs.declared.words.Listed.TheVariants as listed
 use Rattle.pool_reader.specs.Requests.{numbers_in, are_txids, bytes_in, longest_line}
 
 -- the words from there on; none past the end
@@ -37,9 +33,9 @@ pub record Numbers (text : List ℕ) (from to : ℕ) (values : List ℕ) : Type 
   pub numbers : are_numbers read ≡ true
   pub are : values ≡ numbers_in read
 
-abbrev pub NumbersRead : List ℕ → ℕ → List ℕ → Next → Type 0
-NumbersRead text from values (next.At to) = Numbers text from to values
-NumbersRead text from values next.Malformed = start_numbers (length values) (words_at text from) ≡ false
+abbrev pub NumbersRead : ℕ → List ℕ → ℕ → Option (List ℕ × ℕ) → Type 0
+NumbersRead count text from (Some r) = (length r.0 ≡ count) × Numbers text from r.1 r.0
+NumbersRead count text from None = start_numbers count (words_at text from) ≡ false
 
 -- the word between two places is a txid, and its bytes were written
 pub record TxidTo (text : List ℕ) (from to at : ℕ) (old new : List ℕ) : Type 0 where
@@ -50,15 +46,15 @@ pub record TxidTo (text : List ℕ) (from to at : ℕ) (old new : List ℕ) : Ty
   pub hex : is_hex64 word ≡ true
   pub wrote : Wrote (hex_bytes word) at old new (at + 32)
 
-abbrev pub TxidRead : List ℕ → ℕ → ℕ → List ℕ → List ℕ → Next → Type 0
-TxidRead text from at old new (next.At to) = TxidTo text from to at old new
-TxidRead text from at old new next.Malformed = starts_txid (words_at text from) ≡ false
+abbrev pub TxidRead : List ℕ → ℕ → ℕ → List ℕ → List ℕ → Option ℕ → Type 0
+TxidRead text from at old new (Some to) = TxidTo text from to at old new
+TxidRead text from at old new None = starts_txid (words_at text from) ≡ false
 
 -- all words from there on are txids, and their bytes stand at the room's start
 pub record Txids (text : List ℕ) (from len : ℕ) (new : List ℕ) : Type 0 where
   pub are : are_txids (words_at text from) ≡ true
   pub bytes : take len new ≡ bytes_in (words_at text from)
 
-abbrev pub TxidsRead : List ℕ → ℕ → List ℕ → Listed → Type 0
-TxidsRead text from new (listed.Bytes len) = Txids text from len new
-TxidsRead text from new listed.Malformed = are_txids (words_at text from) ≡ false
+abbrev pub TxidsRead : List ℕ → ℕ → List ℕ → Option ℕ → Type 0
+TxidsRead text from new (Some len) = Txids text from len new
+TxidsRead text from new None = are_txids (words_at text from) ≡ false

@@ -12,9 +12,9 @@ mod words;
 
 use pool_table::Limits;
 use template_rules::Terms;
-use texts::{Signed, place, read_signed};
+use texts::{place, read_signed};
 use weights::RawWeight;
-use words::{Listed, Next, is_word, only_numbers, read_numbers, read_txid, read_txids};
+use words::{only_numbers, read_numbers, read_txid, read_txids};
 
 // The most bytes of a line.
 const LONGEST: usize = 8192;
@@ -31,7 +31,6 @@ pub enum Parsed {
     Delta(Delta),
     Mark(Marking),
     Template(Terms),
-    Malformed,
 }
 
 // An entry's numbers, and how many bytes of parents' txids there are.
@@ -62,174 +61,147 @@ pub struct Marking {
     pub mark: u64,
 }
 
-// Reads a line, which has no newline. Where it is of no form, the arrays may have changed.
-pub fn read_request(line: &[u8], txid: &mut [u8; 32], parents: &mut [u8; 4096]) -> Parsed
+// Reads a line, which has no newline. A line of no form is None, and the arrays may have changed.
+pub fn read_request(line: &[u8], txid: &mut [u8; 32], parents: &mut [u8; 4096]) -> Option<Parsed>
     ensures { asked result txid.new parents.new ≡ request_of line.now }
 {
     if LONGEST < line.len() {
-        return Parsed::Malformed;
+        return None;
     }
     let end = place(line, 0, b' ');
-    if is_word(&line[..end], b"add") {
+    let word = &line[..end];
+    if word == b"add".as_slice() {
         return read_add(line, end + 1, txid, parents);
     }
-    if is_word(&line[..end], b"remove") {
+    if word == b"remove".as_slice() {
         return read_remove(line, end + 1, txid);
     }
-    if is_word(&line[..end], b"set-cost") {
+    if word == b"set-cost".as_slice() {
         return read_set_cost(line, end + 1, txid);
     }
     read_plain(line, end)
 }
 
-fn read_add(line: &[u8], from: usize, txid: &mut [u8; 32], parents: &mut [u8; 4096]) -> Parsed
+fn read_add(
+    line: &[u8],
+    from: usize,
+    txid: &mut [u8; 32],
+    parents: &mut [u8; 4096],
+) -> Option<Parsed>
     requires { Place line.now from }
     ensures { asked result txid.new parents.new ≡ as_add (words_at line.now from) }
 {
-    let Next::At(numbers) = read_txid(line, from, txid, 0) else {
-        return Parsed::Malformed;
-    };
-    let mut values = [0u64; 3];
-    let Next::At(rest) = read_numbers(line, numbers, &mut values) else {
-        return Parsed::Malformed;
-    };
-    let Listed::Bytes(listed) = read_txids(line, rest, parents) else {
-        return Parsed::Malformed;
-    };
-    Parsed::Add(Adding {
-        fee: values[0],
-        weight: values[1],
-        cost: values[2],
+    let numbers = read_txid(line, from, txid, 0)?;
+    let ([fee, weight, cost], rest) = read_numbers::<3>(line, numbers)?;
+    let listed = read_txids(line, rest, parents)?;
+    Some(Parsed::Add(Adding {
+        fee,
+        weight,
+        cost,
         listed,
-    })
+    }))
 }
 
-fn read_remove(line: &[u8], from: usize, txid: &mut [u8; 32]) -> Parsed
+fn read_remove(line: &[u8], from: usize, txid: &mut [u8; 32]) -> Option<Parsed>
     requires { Place line.now from }
     ensures { (ps : List ℕ) → asked result txid.new ps ≡ as_remove (words_at line.now from) }
 {
-    let Next::At(end) = read_txid(line, from, txid, 0) else {
-        return Parsed::Malformed;
-    };
+    let end = read_txid(line, from, txid, 0)?;
     if end <= line.len() {
-        return Parsed::Malformed;
+        return None;
     }
-    Parsed::Remove
+    Some(Parsed::Remove)
 }
 
-fn read_set_cost(line: &[u8], from: usize, txid: &mut [u8; 32]) -> Parsed
+fn read_set_cost(line: &[u8], from: usize, txid: &mut [u8; 32]) -> Option<Parsed>
     requires { Place line.now from }
     ensures { (ps : List ℕ) → asked result txid.new ps ≡ as_set_cost (words_at line.now from) }
 {
-    let Next::At(numbers) = read_txid(line, from, txid, 0) else {
-        return Parsed::Malformed;
-    };
-    let mut values = [0u64; 1];
-    if !only_numbers(line, numbers, &mut values) {
-        return Parsed::Malformed;
-    }
-    Parsed::SetCost(values[0])
+    let numbers = read_txid(line, from, txid, 0)?;
+    let [cost] = only_numbers::<1>(line, numbers)?;
+    Some(Parsed::SetCost(cost))
 }
 
 // The lines without a txid; `end` is where the first word ends.
-fn read_plain(line: &[u8], end: usize) -> Parsed
+fn read_plain(line: &[u8], end: usize) -> Option<Parsed>
     requires { Place line.now (end + 1) }
     ensures { (x ps : List ℕ) → asked result x ps ≡ by_plain_word (take end line.now) (words_at line.now (end + 1)) }
 {
-    if is_word(&line[..end], b"make") {
+    let word = &line[..end];
+    if word == b"make".as_slice() {
         return read_make(line, end + 1);
     }
-    if is_word(&line[..end], b"clear") {
+    if word == b"clear".as_slice() {
         if end < line.len() {
-            return Parsed::Malformed;
+            return None;
         }
-        return Parsed::Clear;
+        return Some(Parsed::Clear);
     }
-    if is_word(&line[..end], b"totals") {
+    if word == b"totals".as_slice() {
         if end < line.len() {
-            return Parsed::Malformed;
+            return None;
         }
-        return Parsed::Totals;
+        return Some(Parsed::Totals);
     }
-    if is_word(&line[..end], b"delta") {
+    if word == b"delta".as_slice() {
         return read_delta(line, end + 1);
     }
-    if is_word(&line[..end], b"mark") {
+    if word == b"mark".as_slice() {
         return read_mark(line, end + 1);
     }
-    if is_word(&line[..end], b"template") {
+    if word == b"template".as_slice() {
         return read_terms(line, end + 1);
     }
-    Parsed::Malformed
+    None
 }
 
-fn read_make(line: &[u8], from: usize) -> Parsed
+fn read_make(line: &[u8], from: usize) -> Option<Parsed>
     requires { Place line.now from }
     ensures { (x ps : List ℕ) → asked result x ps ≡ as_make (words_at line.now from) }
 {
-    let mut values = [0u64; 4];
-    if !only_numbers(line, from, &mut values) {
-        return Parsed::Malformed;
-    }
-    Parsed::Make(Making {
-        slots: values[0],
+    let [slots, count, size, bytes_per_sigop] = only_numbers::<4>(line, from)?;
+    Some(Parsed::Make(Making {
+        slots,
         limits: Limits {
-            count: values[1],
-            size: values[2],
-            bytes_per_sigop: values[3],
+            count,
+            size,
+            bytes_per_sigop,
         },
-    })
+    }))
 }
 
-fn read_delta(line: &[u8], from: usize) -> Parsed
+fn read_delta(line: &[u8], from: usize) -> Option<Parsed>
     requires { Place line.now from }
     ensures { (x ps : List ℕ) → asked result x ps ≡ as_delta (words_at line.now from) }
 {
-    let mut values = [0u64; 1];
-    let Next::At(last) = read_numbers(line, from, &mut values) else {
-        return Parsed::Malformed;
-    };
+    let ([slot], last) = read_numbers::<1>(line, from)?;
     if line.len() < last {
-        return Parsed::Malformed;
+        return None;
     }
     let end = place(line, last, b' ');
     if end < line.len() {
-        return Parsed::Malformed;
+        return None;
     }
-    let Signed::Value(sats) = read_signed(&line[last..end]) else {
-        return Parsed::Malformed;
-    };
-    Parsed::Delta(Delta {
-        slot: values[0],
-        sats,
-    })
+    let sats = read_signed(&line[last..end])?;
+    Some(Parsed::Delta(Delta { slot, sats }))
 }
 
-fn read_mark(line: &[u8], from: usize) -> Parsed
+fn read_mark(line: &[u8], from: usize) -> Option<Parsed>
     requires { Place line.now from }
     ensures { (x ps : List ℕ) → asked result x ps ≡ as_mark (words_at line.now from) }
 {
-    let mut values = [0u64; 2];
-    if !only_numbers(line, from, &mut values) {
-        return Parsed::Malformed;
-    }
-    Parsed::Mark(Marking {
-        slot: values[0],
-        mark: values[1],
-    })
+    let [slot, mark] = only_numbers::<2>(line, from)?;
+    Some(Parsed::Mark(Marking { slot, mark }))
 }
 
-fn read_terms(line: &[u8], from: usize) -> Parsed
+fn read_terms(line: &[u8], from: usize) -> Option<Parsed>
     requires { Place line.now from }
     ensures { (x ps : List ℕ) → asked result x ps ≡ as_template (words_at line.now from) }
 {
-    let mut values = [0u64; 3];
-    if !only_numbers(line, from, &mut values) {
-        return Parsed::Malformed;
-    }
-    Parsed::Template(Terms {
-        budget: RawWeight(values[0]),
-        reserve: values[1],
-        minimum: values[2],
-    })
+    let [budget, reserve, minimum] = only_numbers::<3>(line, from)?;
+    Some(Parsed::Template(Terms {
+        budget: RawWeight(budget),
+        reserve,
+        minimum,
+    }))
 }

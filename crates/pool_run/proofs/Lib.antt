@@ -1,5 +1,4 @@
 pub mod Answers
-pub mod Chunks
 pub mod Lines
 pub mod Steps
 pub mod Stops

@@ -1,13 +1,13 @@
 -- Where the pool program stands behind the bytes that it has read so far, however they came. Assumes nothing.
-use Rattle.std.specs.Prelude.{ℕ, suc, ◌≤◌, min, ◌≡◌, true, List, [], ◌∷◌, ◌++◌, length, take, ℤ}
+use Rattle.std.specs.Prelude.{ℕ, suc, ◌≤◌, min, ◌≡◌, true, List, [], ◌∷◌, ◌++◌, length, take}
 use Rattle.texts.specs.Places.{split, split_from}
 use Rattle.pool_reader.specs.Requests.{longest_line, request_of}
-use Rattle.pool_session.specs.declared.Done.{Done}
+use Rattle.pool_session.specs.declared.Memory.{Memory}
 use Rattle.pool_session.specs.Session.{Session, no_pool, slots_of}
 use Rattle.pool_session.specs.Answers.{text_of}
 use Rattle.pool_session.specs.Program.{last_text, number_behind, answers_from, behind_lines}
-use Rattle.pool_session.specs.Memory.{Lent, lent, session_in}
-use Rattle.pool_run.specs.declared.State.{State}
+use Rattle.pool_session.specs.Memory.{lends, session_in}
+use Rattle.pool_run.specs.declared.Desk.{Desk}
 use Rattle.pool_run.specs.declared.writes.Printed.{Printed}
 use Rattle.pool_run.specs.Reads.{held}
 
@@ -54,38 +54,38 @@ pub record DueLast (p : Printed) (text : List ℕ) : Type 0 where
 abbrev pub Cut : List ℕ → List (List ℕ) → List ℕ → Type 0
 Cut input lines pending = (rest : List ℕ) → split 10 (input ++ rest) ≡ lines ++ split_from 10 pending rest
 
--- the lines of this input are answered, its last one is gathered; the session in the arrays is what these lines leave
-pub record Stands (input : List ℕ) (at : State) (line words : List ℕ) (deltas : List ℤ) (marks : List ℕ) : Type 0 where
+-- the lines of this input are answered, its last one is gathered; the session in the memory is what these lines leave
+pub record Stands (input : List ℕ) (d : Desk) : Type 0 where
   pub lines : List (List ℕ)
   pub pending : List ℕ
   pub cut : Cut input lines pending
-  pub gathered : Gathered pending line at.len
-  pub shown : Shown at.printed lines
-  pub slots : at.slots ≡ slots_of (behind_lines no_pool lines)
-  pub session : session_in at.slots (lent words deltas marks []) ≡ behind_lines no_pool lines
+  pub gathered : Gathered pending d.line d.len
+  pub shown : Shown d.printed lines
+  pub slots : d.memory.slots ≡ slots_of (behind_lines no_pool lines)
+  pub session : session_in d.memory.slots (lends d.memory []) ≡ behind_lines no_pool lines
 
 -- behind some input
-pub record Stood (at : State) (line words : List ℕ) (deltas : List ℤ) (marks : List ℕ) : Type 0 where
+pub record Stood (d : Desk) : Type 0 where
   pub input : List ℕ
-  pub stands : Stands input at line words deltas marks
+  pub stands : Stands input d
 
 -- "answers each before it reads on" (README): of so many bytes that were read, each whole line is answered. (This says nothing of the arrays)
-pub record Told (read : ℕ) (at : State) : Type 0 where
+pub record Told (read : ℕ) (d : Desk) : Type 0 where
   pub input : List ℕ
   pub lines : List (List ℕ)
   pub pending : List ℕ
   pub many : read ≡ held (length input)
   pub cut : Cut input lines pending
-  pub kept : at.len ≡ min kept_length (length pending)
-  pub shown : Shown at.printed lines
+  pub kept : d.len ≡ min kept_length (length pending)
+  pub shown : Shown d.printed lines
 
 -- a text stands at the room's start
 pub record Holds (text room : List ℕ) (len : ℕ) : Type 0 where
   pub within : len ≤ length room
   pub says : take len room ≡ text
 
--- the pending line is done, behind these lines: its answer stands in the room, and what it leaves in the arrays
-pub record Responded (lines : List (List ℕ)) (pending : List ℕ) (number : ℕ) (new : Lent) (r : Done) : Type 0 where
-  pub holds : Holds (text_of (behind_lines no_pool lines) number (request_of pending)) new.out r.len
-  pub slots : r.slots ≡ slots_of (behind_lines no_pool (lines ++ (pending ∷ [])))
-  pub session : session_in r.slots new ≡ behind_lines no_pool (lines ++ (pending ∷ []))
+-- the pending line is done, behind these lines: its answer stands in the room, and what it leaves in the memory
+pub record Responded (lines : List (List ℕ)) (pending : List ℕ) (number : ℕ) (new : Memory) (out : List ℕ) (len : ℕ) : Type 0 where
+  pub holds : Holds (text_of (behind_lines no_pool lines) number (request_of pending)) out len
+  pub slots : new.slots ≡ slots_of (behind_lines no_pool (lines ++ (pending ∷ [])))
+  pub session : session_in new.slots (lends new out) ≡ behind_lines no_pool (lines ++ (pending ∷ []))

@@ -5,8 +5,7 @@ ghost use Rattle.std.specs.Prelude.{◌≡◌, length};
 ghost use Rattle.pool_run.specs.Reads.{unread, Gave};
 ghost use Rattle.pool_run.specs.Standing.{Told};
 
-use crate::State;
-use crate::counts::held_sum;
+use crate::Desk;
 use std::io::Read;
 
 // So many reads gave bytes, so many together, and so many the last one.
@@ -56,8 +55,8 @@ pub fn nothing() -> Input
 }
 
 // It asks that each line so far is answered, so that the program can be talked with.
-pub fn read_chunk(rt: &HostRuntime, room: &mut [u8; 4096], before: Input, _at: State) -> Got
-    requires { Told before.bytes _at }
+pub fn read_chunk(rt: &HostRuntime, room: &mut [u8; 4096], before: Input, _desk: &Desk) -> Got
+    requires { Told before.bytes _desk.now }
     ensures { Gave before (length room.new) result }
 {
     let bytes = before.bytes;
@@ -68,8 +67,8 @@ pub fn read_chunk(rt: &HostRuntime, room: &mut [u8; 4096], before: Input, _at: S
         return Got::Ended(End { bytes });
     }
     Got::Bytes(Input {
-        reads: held_sum(before.reads, 1),
-        bytes: held_sum(bytes, last as u64),
+        reads: before.reads.saturating_add(1),
+        bytes: bytes.saturating_add(last as u64),
         last,
     })
 }

@@ -1,11 +1,11 @@
 // One write of the program's output, and what was written so far. Its private fields make a `Printed` what it is: no other module can make
 // one, so whoever holds one has it from a write, or nothing was written.
 ghost use Rattle.std.specs.Prelude.{◌≡◌, [], length};
-ghost use Rattle.pool_session.specs.Memory.{lent, session_in};
+ghost use Rattle.pool_session.specs.Memory.{lends, session_in};
 ghost use Rattle.pool_run.specs.Reads.{unprinted, Wrote};
 ghost use Rattle.pool_run.specs.Standing.{Due, DueLast};
 
-use crate::counts::held_sum;
+use pool_session::Memory;
 
 // The descriptor of standard output.
 const STDOUT_FILENO: i32 = 1;
@@ -44,16 +44,8 @@ pub fn nothing() -> Printed
 }
 
 // A line's answer: it asks that it is the answer to this line, which left this session.
-pub fn write_answer(
-    text: &[u8],
-    before: Printed,
-    _line: &[u8],
-    _slots: usize,
-    _memory: &[u64; 39_940],
-    _deltas: &[i64; 1024],
-    _marks: &[u8; 1024],
-) -> Printed
-    requires { Due before text.now _line.now (session_in _slots (lent _memory.now _deltas.now _marks.now [])) }
+pub fn write_answer(text: &[u8], before: Printed, _line: &[u8], _left: &Memory) -> Printed
+    requires { Due before text.now _line.now (session_in _left.now.slots (lends _left.now [])) }
     ensures { Wrote before (length text.now) result }
 {
     write(text, before)
@@ -72,8 +64,8 @@ fn write(text: &[u8], before: Printed) -> Printed
 {
     let is_open = io::write_all(STDOUT_FILENO, text);
     Printed {
-        number: held_sum(before.number, 1),
-        bytes: held_sum(before.bytes, text.len() as u64),
+        number: before.number.saturating_add(1),
+        bytes: before.bytes.saturating_add(text.len() as u64),
         is_open,
     }
 }

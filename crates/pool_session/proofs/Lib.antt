@@ -1,5 +1,5 @@
+pub mod Arrays
 pub mod Making
-pub mod Memory
 pub mod Sizes
 pub mod Steps
 pub mod Theorems

@@ -12,7 +12,9 @@ use borrow.Author.Tests.{eq-eqb, ne_eqb, eqb-true, eqb-false, ltb-true, ltb-fals
 use Rattle.lists.specs.Lists.{overwrite}
 use Rattle.lists.proofs.Bools.{cases, cond_where}
 use Rattle.refusals.specs.declared.Reply.{Reply}
-use Rattle.refusals.specs.Refusals.{answer_of, reply_of, kept_unless}
+use Rattle.refusals.specs.declared.Refusal.{Refusal}
+use Rattle.refusals.specs.Refusals.{number_of, answer_of, reply_of, kept_unless}
+use Rattle.std.proofs.Common.{Result, Ok, Err}
 use Rattle.slotsets.specs.SlotSets.{capacity}
 use Rattle.txids.specs.declared.Txid.{Txid}
 use Rattle.pool_table.specs.declared.Entry.{Entry}
@@ -24,11 +26,11 @@ use Rattle.template_rules.specs.Filling.{Settings, template}
 use Rattle.template_rules.specs.Calls.{template_refusals, template_reply, template_room}
 use Rattle.pool_reader.specs.Requests.{Request, make, add, remove, set_cost, clear, delta, mark}
 use Rattle.pool_writer.specs.Answers.{placed_text, number_text, selected_text}
-use Rattle.pool_session.specs.declared.Done.{Done}
+use Rattle.pool_session.specs.declared.Memory.{Memory}
 use Rattle.pool_session.specs.Session.{Session, slots_of, lent_table, after_making, after, setting_answer, mark_of}
 use Rattle.pool_session.specs.Answers.{text_of, lent_room, with_terms, template_text}
-use Rattle.pool_session.specs.Memory.{Lent, lent, words_for, session_in, Says, Answered, Stepped, Sized, memory_length}
-use Rattle.pool_session.proofs.Memory.{in_front, stays, wiped_length, wiped_all_length}
+use Rattle.pool_session.specs.Memory.{Lent, lent, lends, words_for, session_in, Says, Answered, Stepped, Sized, memory_length}
+use Rattle.pool_session.proofs.Arrays.{in_front, stays, wiped_length, wiped_all_length}
 
 pub words_fit : (n : ℕ) → n ≤ capacity → words_for n ≤ memory_length
 unfolding words_for
@@ -39,10 +41,10 @@ pub words_in : (n words : ℕ) (memory : List ℕ) → words ≡ words_for n →
 words_in n words memory e h l = omega (arith, e, words_fit n h, l)
 
 -- a table that a call left, put back in front of the rest of the memory
-pub put_back : (words : ℕ) (new memory : List ℕ) {t : List ℕ} → words ≤ length memory → length new ≡ length (take words memory) → new ≡ t
+pub put_back : {A : Type 0} (words : ℕ) (new memory : List A) {t : List A} → words ≤ length memory → length new ≡ length (take words memory) → new ≡ t
     → new ++ drop words memory ≡ overwrite t memory
-put_back words new memory h l q =
-    in_front words new memory (l ∙ length-take-le words memory h) ∙ ap (λ (t : List ℕ). overwrite t memory) q
+put_back {A} words new memory h l q =
+    in_front words new memory (l ∙ length-take-le words memory h) ∙ ap (λ (t : List A). overwrite t memory) q
 
 -- a text that is another one
 pub tells : (old : List ℕ) {a b new : List ℕ} {len : ℕ} → a ≡ b → Says a old new len → Says b old new len
@@ -55,109 +57,105 @@ unfolding after_making
 made_session slots l s z = rw (eq-eqb (make_answer (lent_table slots) l) 0 z)
 
 -- a line asks for this
-pub asks : {n m k : ℕ} {p q : Request} {old new : Lent} {r : Done} → n ≡ m → p ≡ q → Stepped n k p old new r → Stepped m k q old new r
+pub asks : {n m k : ℕ} {p q : Request} {old new : Lent} {left len : ℕ} → n ≡ m → p ≡ q → Stepped n k p old new left len → Stepped m k q old new left len
 asks e f s = rw (← e, ← f) s
 
-module _ (n k : ℕ) (old : Lent) (z : Sized n old.words old.deltas old.marks) where
-  abbrev in_words : words_for n ≤ length old.words
+module _ (m : Memory) (room : List ℕ) (k : ℕ) (z : Sized m) where
+  abbrev n : ℕ
+  n = m.slots
+
+  abbrev old : Lent
+  old = lends m room
+
+  abbrev in_words : words_for n ≤ length m.words
   in_words = omega (arith, words_fit n z.few, z.memory)
 
-  abbrev in_deltas : n ≤ length old.deltas
-  in_deltas = omega (arith, z.few, z.each.0)
+  abbrev in_deltas : n ≤ length m.deltas
+  in_deltas = omega (arith, z.few, z.deltas)
 
-  abbrev in_marks : n ≤ length old.marks
-  in_marks = omega (arith, z.few, z.each.1)
+  abbrev in_marks : n ≤ length m.marks
+  in_marks = omega (arith, z.few, z.marks)
 
-  many : length (take n old.deltas) ≡ n
-  many = length-take-le n old.deltas in_deltas
+  many : length (take n m.deltas) ≡ n
+  many = length-take-le n m.deltas in_deltas
 
-  words_stay : old.words ≡ overwrite (take (words_for n) old.words) old.words
-  words_stay = stays (words_for n) old.words in_words
+  words_stay : m.words ≡ overwrite (take (words_for n) m.words) m.words
+  words_stay = stays (words_for n) m.words in_words
 
-  deltas_stay : old.deltas ≡ overwrite (take n old.deltas) old.deltas
-  deltas_stay = stays n old.deltas in_deltas
+  deltas_stay : m.deltas ≡ overwrite (take n m.deltas) m.deltas
+  deltas_stay = stays n m.deltas in_deltas
 
-  marks_stay : old.marks ≡ overwrite (take n old.marks) old.marks
-  marks_stay = stays n old.marks in_marks
+  marks_stay : m.marks ≡ overwrite (take n m.marks) m.marks
+  marks_stay = stays n m.marks in_marks
 
   module _ {out : List ℕ} {len : ℕ} where
     -- a line that leaves all
-    pub leaves_all : (q : Request) {slots : ℕ} → slots ≡ n → after (session_in n old) q ≡ session_in n old
-        → Says (text_of (session_in n old) k q) old.out out len
-        → Stepped n k q old (lent old.words old.deltas old.marks out) (record { slots = slots; len = len })
-    leaves_all q f e s = record {
-      slots = f ∙ sym (ap slots_of e ∙ many);
+    pub leaves_all : (q : Request) → after (session_in n old) q ≡ session_in n old
+        → Says (text_of (session_in n old) k q) room out len
+        → Stepped n k q old (lent m.words m.deltas m.marks out) n len
+    leaves_all q e s = record {
+      slots = sym (ap slots_of e ∙ many);
       answers = record { words = rw e words_stay; deltas = rw e deltas_stay; marks = rw e marks_stay; says = s };
     }
 
     -- a make that is refused, and one that is not
-    pub not_made : (slots : ℕ) (l : Limits) {words : List ℕ} → (make_answer (lent_table slots) l ≡ 0 → ⊥) → words ≡ old.words
-        → Says (number_text (make_answer (lent_table slots) l)) old.out out len
-        → Stepped n k (make slots l) old (lent words old.deltas old.marks out) (record { slots = n; len = len })
+    pub leaves_made : (slots : ℕ) (l : Limits) → (make_answer (lent_table slots) l ≡ 0 → ⊥)
+        → Says (number_text (make_answer (lent_table slots) l)) room out len
+        → Stepped n k (make slots l) old (lent m.words m.deltas m.marks out) n len
     unfolding after_making
-    not_made slots l z w s = rw w (leaves_all (make slots l) refl (rw (ne_eqb (make_answer (lent_table slots) l) 0 z)) s)
+    leaves_made slots l r s = leaves_all (make slots l) (rw (ne_eqb (make_answer (lent_table slots) l) 0 r)) s
 
-    pub made_now : (slots : ℕ) (l : Limits) {words : List ℕ} {deltas : List ℤ} {marks : List ℕ} → make_answer (lent_table slots) l ≡ 0
-        → words ≡ overwrite (after_make (lent_table slots) l) old.words → deltas ≡ overwrite (replicate slots (pos 0)) old.deltas
-        → marks ≡ overwrite (replicate slots 0) old.marks → Says (number_text 0) old.out out len
-        → Stepped n k (make slots l) old (lent words deltas marks out) (record { slots = slots; len = len })
-    made_now slots l z w d m s =
-        let e = made_session slots l (session_in n old) z in
+    pub not_made : (slots : ℕ) (l : Limits) {words : List ℕ} → (make_answer (lent_table slots) l ≡ 0 → ⊥) → words ≡ m.words
+        → Says (number_text (make_answer (lent_table slots) l)) room out len
+        → Stepped n k (make slots l) old (lent words m.deltas m.marks out) n len
+    not_made slots l r w s = rw w (leaves_made slots l r s)
+
+    pub made_now : (slots : ℕ) (l : Limits) {words : List ℕ} → make_answer (lent_table slots) l ≡ 0
+        → words ≡ overwrite (after_make (lent_table slots) l) m.words → Says (number_text 0) room out len
+        → Stepped n k (make slots l) old
+        (lent words (overwrite (replicate slots (pos 0)) m.deltas) (overwrite (replicate slots 0) m.marks) out) slots len
+    made_now slots l r w s =
+        let e = made_session slots l (session_in n old) r in
         record {
           slots = sym (ap slots_of e ∙ length-replicate slots (pos 0));
-          answers = record { words = rw e w; deltas = rw e d; marks = rw e m; says = rw z s };
+          answers = record { words = rw e w; deltas = rw e; marks = rw e; says = rw r s };
         }
 
-    pub cost_set : (x : Txid) (c : ℕ) {words : List ℕ} → words ≡ overwrite (after_set_cost (take (words_for n) old.words) x c) old.words
-        → Says (placed_text (named_reply (take (words_for n) old.words) x)) old.out out len
-        → Stepped n k (set_cost x c) old (lent words old.deltas old.marks out) (record { slots = n; len = len })
+    pub cost_set : (x : Txid) (c : ℕ) {words : List ℕ} → words ≡ overwrite (after_set_cost (take (words_for n) m.words) x c) m.words
+        → Says (placed_text (named_reply (take (words_for n) m.words) x)) room out len
+        → Stepped n k (set_cost x c) old (lent words m.deltas m.marks out) n len
     cost_set x c w s =
         record { slots = sym many; answers = record { words = w; deltas = deltas_stay; marks = marks_stay; says = s } }
 
-    pub delta_set : (i : ℕ) (d : ℤ) {deltas : List ℤ} → deltas ≡ overwrite (set (take n old.deltas) i d) old.deltas
-        → Says (number_text (setting_answer n i)) old.out out len
-        → Stepped n k (delta i d) old (lent old.words deltas old.marks out) (record { slots = n; len = len })
+    pub delta_set : (i : ℕ) (d : ℤ) {deltas : List ℤ} → deltas ≡ overwrite (set (take n m.deltas) i d) m.deltas
+        → Says (number_text (setting_answer n i)) room out len
+        → Stepped n k (delta i d) old (lent m.words deltas m.marks out) n len
     delta_set i d w s = record {
-      slots = sym (length-set (take n old.deltas) i d ∙ many);
+      slots = sym (length-set (take n m.deltas) i d ∙ many);
       answers = record { words = words_stay; deltas = w; marks = marks_stay; says = rw many s };
     }
 
-    pub mark_set : (i m : ℕ) {marks : List ℕ} → marks ≡ overwrite (set (take n old.marks) i (mark_of m)) old.marks
-        → Says (number_text (setting_answer n i)) old.out out len
-        → Stepped n k (mark i m) old (lent old.words old.deltas marks out) (record { slots = n; len = len })
-    mark_set i m w s = record {
+    pub mark_set : (i b : ℕ) {marks : List ℕ} → marks ≡ overwrite (set (take n m.marks) i (mark_of b)) m.marks
+        → Says (number_text (setting_answer n i)) room out len
+        → Stepped n k (mark i b) old (lent m.words m.deltas marks out) n len
+    mark_set i b w s = record {
       slots = sym many;
       answers = record { words = words_stay; deltas = deltas_stay; marks = w; says = rw many s };
     }
 
   -- a line that changes all, and not how many slots there are
   module _ {new : Lent} {len : ℕ} where
-    pub added : (e : Entry) (listed : List ℕ) → Answered n k (add e listed) old new len
-        → Stepped n k (add e listed) old new (record { slots = n; len = len })
+    pub added : (e : Entry) (listed : List ℕ) → Answered n k (add e listed) old new len → Stepped n k (add e listed) old new n len
     added e listed a =
-        record { slots = sym (wiped_length n old.deltas in_deltas (add_reply (take (words_for n) old.words) e listed) (pos 0)); answers = a }
+        record { slots = sym (wiped_length n m.deltas in_deltas (add_reply (take (words_for n) m.words) e listed) (pos 0)); answers = a }
 
-    pub removed : (x : Txid) → Answered n k (remove x) old new len → Stepped n k (remove x) old new (record { slots = n; len = len })
+    pub removed : (x : Txid) → Answered n k (remove x) old new len → Stepped n k (remove x) old new n len
     removed x a =
-        record { slots = sym (wiped_length n old.deltas in_deltas (named_reply (take (words_for n) old.words) x) (pos 0)); answers = a }
+        record { slots = sym (wiped_length n m.deltas in_deltas (named_reply (take (words_for n) m.words) x) (pos 0)); answers = a }
 
-    pub cleared : Answered n k clear old new len → Stepped n k clear old new (record { slots = n; len = len })
+    pub cleared : Answered n k clear old new len → Stepped n k clear old new n len
     cleared a =
-        record { slots = sym (wiped_all_length n old.deltas in_deltas (clear_answer (take (words_for n) old.words)) (pos 0)); answers = a }
-
--- ---- whether a pool of n slots has slot k
-
-pub has_slot : (n k : ℕ) → setting_answer n k ≡ 0 → k < n
-unfolding setting_answer answer_of
-has_slot n k e =
-    cases (eqb n 0) (λ t. let z : ◌≡◌ {A = ℕ} 12 0 = rw t at e in absurd (omega arith))
-    (λ f. cases (ltb k n) (λ t. ltb-true k n t) (λ g. let z : ◌≡◌ {A = ℕ} 3 0 = rw (f, g) at e in absurd (omega arith)))
-
-pub no_slot : (n k : ℕ) → (setting_answer n k ≡ 0 → ⊥) → n ≤ k
-unfolding setting_answer answer_of
-no_slot n k d =
-    cases (eqb n 0) (λ t. omega (arith, eqb-true n 0 t))
-    (λ f. cases (ltb k n) (λ t. absurd (d (rw (f, t)))) (λ g. ltb-false k n g))
+        record { slots = sym (wiped_all_length n m.deltas in_deltas (clear_answer (take (words_for n) m.words)) (pos 0)); answers = a }
 
 -- ---- a template's reply and room
 

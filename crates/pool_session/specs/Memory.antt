@@ -4,7 +4,7 @@ use Rattle.lists.specs.Lists.{overwrite}
 use Rattle.slotsets.specs.SlotSets.{capacity}
 use Rattle.pool_table.specs.Words.{row_at}
 use Rattle.pool_reader.specs.Requests.{Request}
-use Rattle.pool_session.specs.declared.Done.{Done}
+use Rattle.pool_session.specs.declared.Memory.{Memory}
 use Rattle.pool_session.specs.Session.{Session, slots_of, after}
 use Rattle.pool_session.specs.Answers.{text_of}
 
@@ -17,6 +17,10 @@ pub record Lent : Type 0 where
 
 abbrev pub lent : List ℕ → List ℤ → List ℕ → List ℕ → Lent
 lent words deltas marks out = record { words = words; deltas = deltas; marks = marks; out = out }
+
+-- the arrays of a memory, and a room
+abbrev pub lends : Memory → List ℕ → Lent
+lends m out = lent m.words m.deltas m.marks out
 
 -- the words of a table of n slots; without a pool there is none
 unfoldable pub words_for : ℕ → ℕ
@@ -39,16 +43,22 @@ pub record Answered (n k : ℕ) (q : Request) (old new : Lent) (len : ℕ) : Typ
   pub says : Says (text_of (session_in n old) k q) old.out new.out len
 
 -- and it has so many slots then
-pub record Stepped (n k : ℕ) (q : Request) (old new : Lent) (r : Done) : Type 0 where
-  pub slots : r.slots ≡ slots_of (after (session_in n old) q)
-  pub answers : Answered n k q old new r.len
+pub record Stepped (n k : ℕ) (q : Request) (old new : Lent) (left len : ℕ) : Type 0 where
+  pub slots : left ≡ slots_of (after (session_in n old) q)
+  pub answers : Answered n k q old new len
 
--- ---- for the crate's own functions: the arrays have room for any pool
+-- ---- for the crate's own functions
 
+-- a line that asks for q is answered, whatever its number
+abbrev pub Does : Request → Memory → List ℕ → Memory → List ℕ → ℕ → Type 0
+Does q old room new written len = (k : ℕ) → Stepped old.slots k q (lends old room) (lends new written) new.slots len
+
+-- the arrays have room for any pool
 abbrev pub memory_length : ℕ
 memory_length = row_at capacity
 
-pub record Sized (n : ℕ) (words : List ℕ) (deltas : List ℤ) (marks : List ℕ) : Type 0 where
-  pub few : n ≤ capacity
-  pub memory : length words ≡ memory_length
-  pub each : (length deltas ≡ capacity) × (length marks ≡ capacity)
+pub record Sized (m : Memory) : Type 0 where
+  pub few : m.slots ≤ capacity
+  pub memory : length m.words ≡ memory_length
+  pub deltas : length m.deltas ≡ capacity
+  pub marks : length m.marks ≡ capacity

@@ -1,10 +1,11 @@
 -- A txid's bytes as the loop writes them, and that all that is printed fits the room. Assumes nothing.
-use mathlib.Core.Path.{◌≡◌, refl, sym, ◌∙◌}
-use mathlib.Core.List.{List, [], ◌∷◌, ◌++◌, append-nil, append_assoc}
-use Prim.Native.Nat.{ℕ, zero, suc, ◌-◌, ◌/◌, ◌%◌, ◌≤◌, ◌<◌}
+use mathlib.Core.Path.{◌≡◌, refl, ap, ap₂, ◌∙◌}
+use mathlib.Core.List.{List, [], ◌∷◌, ◌++◌}
+use Prim.Native.Nat.{ℕ, zero, suc, ◌/◌, ◌%◌, ◌^◌, ◌≤◌}
+use native.Mathlib.Nat.{mul_comm, pow-suc, div-div-eq-div-mul}
 use native.Mathlib.Omega.{arith}
-use lib.ListN.{length, take, drop, set, length-append, length-set, drop_of_length-le}
-use lib.Seq.{drop_at, set_split, length-take-le}
+use lib.ListN.{length, length-append}
+use Rattle.std.specs.Int.{bytes_high_first, byte_at}
 use Rattle.slotsets.specs.SlotSets.{capacity}
 use Rattle.txids.specs.declared.Txid.{Txid}
 use Rattle.texts.specs.Writing.{decimal, text_line}
@@ -14,40 +15,21 @@ use Rattle.texts.proofs.Numbers.{joined_length, commas_length}
 use Rattle.pool_writer.specs.Texts.{word_bytes, word_text, txid_text, slot_text}
 use Rattle.pool_writer.specs.Answers.{entries_name, weight_name, number_text, selected_text, room_length}
 
--- ---- the bytes of a word: those from k on are written, and `left` is what stands before them
+-- ---- the bytes of a word, as the standard library gives them
 
-pub record Spelling (word left k : ℕ) (bytes : List ℕ) : Type 0 where
-  pub room : length bytes ≡ 8
-  pub within : k ≤ 8
-  pub spells : word_bytes k left ++ drop k bytes ≡ word_bytes 8 word
+byte_next : (k n : ℕ) → byte_at (suc k) n ≡ byte_at k (n / 256)
+byte_next zero n = refl
+byte_next (suc k) n =
+    rw (div-div-eq-div-mul n 256 (256 ^ suc k)) (ap (λ (m : ℕ). n / m % 256) (pow-suc 256 (suc k) ∙ mul_comm (256 ^ suc k) 256))
 
-pub none_spelt : (word : ℕ) (bytes : List ℕ) → length bytes ≡ 8 → Spelling word word 8 bytes
-none_spelt word bytes l = record {
-  room = l;
-  within = omega arith;
-  spells = rw (drop_of_length-le bytes {i = 8} (omega arith)) (append-nil (word_bytes 8 word));
-}
+last_bytes : (k n : ℕ) → bytes_high_first (suc k) n ≡ bytes_high_first k (n / 256) ++ (n % 256 ∷ [])
+last_bytes zero n = refl
+last_bytes (suc k) n = ap₂ ◌∷◌ (byte_next k n) (last_bytes k n)
 
-drop_set : (j v : ℕ) (l : List ℕ) → j < length l → drop j (set l j v) ≡ v ∷ drop (suc j) l
-drop_set j v l h = rw (set_split l j v h) (drop_at (take j l) (v ∷ drop (suc j) l) j (length-take-le j l (omega arith)))
-
-byte_next : (word left j : ℕ) (bytes : List ℕ) → Spelling word left (suc j) bytes → Spelling word (left / 256) j (set bytes j (left % 256))
+pub bytes_are : (k n : ℕ) → bytes_high_first k n ≡ word_bytes k n
 unfolding word_bytes
-byte_next word left j bytes s = record {
-  room = length-set bytes j (left % 256) ∙ s.room;
-  within = omega (arith, s.within);
-  spells =
-      rw (drop_set j (left % 256) bytes (omega (arith, s.within, s.room)))
-      (sym (append_assoc (word_bytes j (left / 256)) (left % 256 ∷ []) (drop (suc j) bytes)) ∙ s.spells);
-}
-
-pub byte_spelt : {word left k : ℕ} {bytes : List ℕ} → 0 < k → Spelling word left k bytes
-    → Spelling word (left / 256) (k - 1) (set bytes (k - 1) (left % 256))
-byte_spelt {word} {left} {k} {bytes} h s = let e : k ≡ suc (k - 1) = omega arith in byte_next word left (k - 1) bytes (rw e at s)
-
-pub all_spelt : {word left k : ℕ} {bytes : List ℕ} → k ≤ 0 → Spelling word left k bytes → bytes ≡ word_bytes 8 word
-unfolding word_bytes
-all_spelt {word} {left} {k} {bytes} h s = let e : k ≡ 0 = omega arith in let t = rw e at s in t.spells
+bytes_are zero n = refl
+bytes_are (suc k) n = last_bytes k n ∙ ap (λ (l : List ℕ). l ++ (n % 256 ∷ [])) (bytes_are k (n / 256))
 
 -- ---- lengths
 

@@ -7,7 +7,7 @@ ghost use Rattle.lists.specs.Lists.{overwrite};
 ghost use Rattle.slotsets.specs.SlotSets.{capacity};
 ghost use Rattle.texts.specs.Writing.{decimal, joined, item, text_line};
 ghost use Rattle.texts.specs.Rooms.{Writes};
-ghost use Rattle.pool_writer.specs.Texts.{word_bytes, word_text, txid_text, slot_text};
+ghost use Rattle.pool_writer.specs.Texts.{word_text, txid_text, slot_text};
 ghost use Rattle.pool_writer.specs.Answers.{number_text, placed_text, totals_text, selected_text, malformed_text, room_length};
 
 use pool_rules::{Placed, Totals};
@@ -61,10 +61,8 @@ pub fn write_selected(table: &[u64], slots: &[usize], out: &mut [u8; 90_112]) ->
     ensures value { result ≡ length (selected_text table.now (take capacity slots.now)) }
     ensures out_after { out.new ≡ overwrite (selected_text table.now (take capacity slots.now)) out.old }
 {
-    if CAPACITY < slots.len() {
-        return both_lines(table, &slots[..CAPACITY], out);
-    }
-    both_lines(table, slots, out)
+    let shown = &slots[..CAPACITY.min(slots.len())];
+    both_lines(table, shown, out)
 }
 
 fn both_lines(table: &[u64], slots: &[usize], out: &mut [u8]) -> usize
@@ -84,11 +82,9 @@ fn write_txids(table: &[u64], slots: &[usize], out: &mut [u8], from: usize) -> u
     ensures { Writes (joined (slot_text table.now) slots.now) from out.old out.new result }
 {
     let mut at = from;
-    let mut k: usize = 0;
-    // The txids of the first k slots are written, up to `at`.
-    while k < slots.len() {
-        at = next_txid(table, k, slots[k], out, at);
-        k += 1;
+    // The txids of the slots passed are written, up to `at`.
+    for (k, &slot) in slots.iter().enumerate() {
+        at = next_txid(table, k, slot, out, at);
     }
     at
 }
@@ -117,22 +113,5 @@ fn write_txid(txid: Txid, out: &mut [u8], from: usize) -> usize
 fn write_word(word: u64, out: &mut [u8], at: usize) -> usize
     ensures { Writes (word_text word) at out.old out.new result }
 {
-    let bytes = bytes_of(word);
-    write_hex(&bytes, out, at)
-}
-
-// The eight bytes of a word, the highest first.
-fn bytes_of(word: u64) -> [u8; 8]
-    ensures { result ≡ word_bytes 8 word }
-{
-    let mut bytes = [0u8; 8];
-    let mut left = word;
-    let mut k: usize = 8;
-    // The bytes from k on are written, and `left` is what stands before them.
-    while 0 < k {
-        k -= 1;
-        bytes[k] = (left % 256) as u8;
-        left = left / 256;
-    }
-    bytes
+    write_hex(&word.to_be_bytes(), out, at)
 }

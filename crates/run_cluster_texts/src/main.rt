@@ -3,20 +3,12 @@
 
 #![tactic(auto)]
 
-ghost use Rattle.std.specs.Prelude.{◌≡◌, ◌≤◌, ◌<◌, length};
-ghost use Rattle.run_cluster_texts.specs.Bounds.{Within};
+ghost use Rattle.std.specs.Prelude.{◌≡◌, ◌≤◌, ◌<◌, length, IfSome};
 
 // The descriptors of standard input and output.
 const STDIN_FILENO: i32 = 0;
 
 const STDOUT_FILENO: i32 = 1;
-
-// How many bytes a line stands for, or that they are too many.
-#[derive(Clone, Copy)]
-enum Decoded {
-    Bytes(usize),
-    TooLong,
-}
 
 fn main() {
     let mut input = room();
@@ -33,51 +25,38 @@ fn room() -> [u8; 524_288]
 
 // Each line, as it is made.
 fn table(input: &[u8]) {
-    let mut from: usize = 0;
-    while from < input.len() {
-        let end = line_end(input, from);
-        case(&input[from..end]);
-        if end == input.len() {
-            return;
-        }
-        from = end + 1;
+    for line in input.split_inclusive(|&b| b == b'\n') {
+        case(line.strip_suffix(b"\n".as_slice()).unwrap_or(line));
     }
-}
-
-// The place of the next newline, or the end.
-fn line_end(input: &[u8], from: usize) -> usize
-    requires { from ≤ length input.now }
-    ensures { (from ≤ result) × (result ≤ length input.now) }
-{
-    texts::place(input, from, b'\n')
 }
 
 fn case(line: &[u8]) {
     io::write_all(STDOUT_FILENO, line);
     io::write_all(STDOUT_FILENO, b" > ");
     let mut text = [0u8; 4096];
-    let Decoded::Bytes(len) = decode(line, &mut text) else {
+    let Some(len) = decode(line, &mut text) else {
         io::write_all(STDOUT_FILENO, b"too long\n");
         return;
     };
     show_response(&text[..len]);
 }
 
-// Puts the bytes that a line stands for at the start of `text`.
-fn decode(line: &[u8], text: &mut [u8]) -> Decoded
-    ensures { Within (length text.new) result }
+// Puts the bytes that a line stands for at the start of `text`, and answers how many they are; none, where they are too many.
+fn decode(line: &[u8], text: &mut [u8]) -> Option<usize>
+    ensures { IfSome result (λ n. n ≤ length text.new) }
 {
     let mut n: usize = 0;
     let mut i: usize = 0;
+    // stays: a sign has one byte or three, so the place of the next is counted by hand
     while i < line.len() {
         if text.len() <= n {
-            return Decoded::TooLong;
+            return None;
         }
         text[n] = byte_at(line, i);
         i = next(line, i);
         n += 1;
     }
-    Decoded::Bytes(n)
+    Some(n)
 }
 
 // The byte that the sign at i stands for.
@@ -116,20 +95,11 @@ fn digit(line: &[u8], i: usize, k: usize) -> u8
     if line.len() - i <= k {
         return 0;
     }
-    let b = line[i + k];
-    if b < b'0' {
-        return 0;
+    match line[i + k] {
+        b @ b'0'..=b'9' => b - b'0',
+        b @ b'a'..=b'f' => b - b'a' + 10,
+        _ => 0,
     }
-    if b <= b'9' {
-        return b - 48;
-    }
-    if b < b'a' {
-        return 0;
-    }
-    if b <= b'f' {
-        return b - 87;
-    }
-    0
 }
 
 fn show_response(text: &[u8]) {
@@ -144,10 +114,8 @@ fn show_response(text: &[u8]) {
 fn one_line(out: &mut [u8; 8192])
     ensures { length out.new ≡ length out.old }
 {
-    let mut i: usize = 0;
-    while i < 8192 {
-        out[i] = shown(out[i]);
-        i += 1;
+    for b in out.iter_mut() {
+        *b = shown(*b);
     }
 }
 

@@ -2,224 +2,225 @@
 
 #![tactic(auto)]
 
-use feefrac::{FeeFrac, Ordering};
-// The descriptor of standard output.
-const STDOUT_FILENO: i32 = 1;
+use feefrac::FeeFrac;
+use std::cmp::Ordering;
+use std::{fmt, io};
 
-const MOST: u64 = 18_446_744_073_709_551_615;
+const MOST: u64 = u64::MAX;
 
-const HIGH: i64 = 9_223_372_036_854_775_807;
+const HIGH: i64 = i64::MAX;
 
-const LOW: i64 = -9_223_372_036_854_775_808;
+const LOW: i64 = i64::MIN;
 
-fn main() {
-    sums();
-    differences();
-    given_back();
-    negatives();
-    sizes_of_zero();
-    equal_feerates();
-    ends_of_one_word();
-    ends_of_two_words();
-    negative_fees();
+fn main(rt: HostRuntime) {
+    // The run ends well whatever became of its output, which is compared.
+    let _ = run(&rt);
+}
+
+fn run(rt: &impl Print) -> io::Result<()> {
+    sums(rt)?;
+    differences(rt)?;
+    given_back(rt)?;
+    negatives(rt)?;
+    sizes_of_zero(rt)?;
+    equal_feerates(rt)?;
+    ends_of_one_word(rt)?;
+    ends_of_two_words(rt)?;
+    negative_fees(rt)
 }
 
 // Sums that fit, and sums that stop at an end.
-fn sums() {
-    show_sum(rate(0, 0), rate(0, 0));
-    show_sum(rate(0, MOST), rate(0, 0));
-    show_sum(rate(0, MOST - 1), rate(0, 1));
-    show_sum(rate(0, MOST), rate(0, 1));
-    show_sum(rate(0, MOST), rate(0, MOST));
-    show_sum(rate(HIGH - 1, 1), rate(1, 1));
-    show_sum(rate(HIGH, 1), rate(1, 1));
-    show_sum(rate(HIGH, 1), rate(HIGH, 1));
-    show_sum(rate(LOW + 1, 1), rate(-1, 1));
-    show_sum(rate(LOW, 1), rate(-1, 1));
-    show_sum(rate(LOW, 1), rate(LOW, 1));
-    show_sum(rate(LOW, 1), rate(HIGH, 1));
+fn sums(rt: &impl Print) -> io::Result<()> {
+    for (a, b) in [
+        (rate(0, 0), rate(0, 0)),
+        (rate(0, MOST), rate(0, 0)),
+        (rate(0, MOST - 1), rate(0, 1)),
+        (rate(0, MOST), rate(0, 1)),
+        (rate(0, MOST), rate(0, MOST)),
+        (rate(HIGH - 1, 1), rate(1, 1)),
+        (rate(HIGH, 1), rate(1, 1)),
+        (rate(HIGH, 1), rate(HIGH, 1)),
+        (rate(LOW + 1, 1), rate(-1, 1)),
+        (rate(LOW, 1), rate(-1, 1)),
+        (rate(LOW, 1), rate(LOW, 1)),
+        (rate(LOW, 1), rate(HIGH, 1)),
+    ] {
+        println!(rt; "{} + {} = {}", Shown(a), Shown(b), Shown(a.add(b)))?;
+    }
+    Ok(())
 }
 
-fn differences() {
-    show_difference(rate(0, 0), rate(0, 1));
-    show_difference(rate(0, 0), rate(0, MOST));
-    show_difference(rate(0, MOST), rate(0, MOST));
-    show_difference(rate(LOW + 1, 2), rate(1, 1));
-    show_difference(rate(LOW, 2), rate(1, 1));
-    show_difference(rate(LOW, 2), rate(HIGH, 1));
-    show_difference(rate(LOW, 2), rate(LOW, 1));
-    show_difference(rate(HIGH, 2), rate(-1, 1));
-    show_difference(rate(HIGH, 2), rate(LOW, 1));
-    show_difference(rate(-1, 2), rate(LOW, 1));
-    show_difference(rate(0, 2), rate(LOW, 1));
+fn differences(rt: &impl Print) -> io::Result<()> {
+    for (a, b) in [
+        (rate(0, 0), rate(0, 1)),
+        (rate(0, 0), rate(0, MOST)),
+        (rate(0, MOST), rate(0, MOST)),
+        (rate(LOW + 1, 2), rate(1, 1)),
+        (rate(LOW, 2), rate(1, 1)),
+        (rate(LOW, 2), rate(HIGH, 1)),
+        (rate(LOW, 2), rate(LOW, 1)),
+        (rate(HIGH, 2), rate(-1, 1)),
+        (rate(HIGH, 2), rate(LOW, 1)),
+        (rate(-1, 2), rate(LOW, 1)),
+        (rate(0, 2), rate(LOW, 1)),
+    ] {
+        println!(rt; "{} - {} = {}", Shown(a), Shown(b), Shown(a.sub(b)))?;
+    }
+    Ok(())
 }
 
 // What a held sum lost does not come back with the member.
-fn given_back() {
-    show_given_back(rate(5, 7), rate(3, 4));
-    show_given_back(rate(HIGH, 7), rate(10, 4));
-    show_given_back(rate(LOW, 7), rate(-10, 4));
-    show_given_back(rate(5, MOST), rate(3, 4));
-    show_given_back(rate(HIGH, MOST), rate(HIGH, MOST));
+fn given_back(rt: &impl Print) -> io::Result<()> {
+    for (a, b) in [
+        (rate(5, 7), rate(3, 4)),
+        (rate(HIGH, 7), rate(10, 4)),
+        (rate(LOW, 7), rate(-10, 4)),
+        (rate(5, MOST), rate(3, 4)),
+        (rate(HIGH, MOST), rate(HIGH, MOST)),
+    ] {
+        println!(rt;
+            "{} + b - b, b = {}: {}",
+            Shown(a),
+            Shown(b),
+            Shown(a.add(b).sub(b))
+        )?;
+    }
+    Ok(())
 }
 
-fn negatives() {
-    show_negated(rate(0, 3));
-    show_negated(rate(HIGH, MOST));
-    show_negated(rate(LOW + 1, 0));
-    show_negated(rate(LOW, 0));
+fn negatives(rt: &impl Print) -> io::Result<()> {
+    for a in [rate(0, 3), rate(HIGH, MOST), rate(LOW + 1, 0), rate(LOW, 0)] {
+        println!(rt; "negated {} = {}", Shown(a), Shown(a.negate()))?;
+    }
+    Ok(())
 }
 
-fn sizes_of_zero() {
-    compare(rate(1, 1), rate(5, 0));
-    compare(rate(5, 0), rate(1, 1));
-    compare(rate(-5, 0), rate(1, 1));
-    compare(rate(1, 1), rate(-5, 0));
-    compare(rate(0, 0), rate(0, 0));
-    compare(rate(0, 0), rate(3, 7));
-    compare(rate(-1, 0), rate(1, 0));
-    compare(rate(HIGH, 0), rate(LOW, MOST));
-}
-
-fn equal_feerates() {
-    compare(rate(1, 2), rate(2, 4));
-    compare(rate(2, 4), rate(1, 2));
-    compare(rate(1, 2), rate(1, 2));
-    compare(rate(0, 5), rate(0, 9));
-    compare(rate(-1, 2), rate(-2, 4));
-    compare(rate(HIGH, MOST), rate(HIGH, MOST));
+fn sizes_of_zero(rt: &impl Print) -> io::Result<()> {
     compare(
-        rate(4_611_686_018_427_387_903, 9_223_372_036_854_775_807),
-        rate(9_223_372_036_854_775_806, MOST - 1),
-    );
+        rt,
+        &[
+            (rate(1, 1), rate(5, 0)),
+            (rate(5, 0), rate(1, 1)),
+            (rate(-5, 0), rate(1, 1)),
+            (rate(1, 1), rate(-5, 0)),
+            (rate(0, 0), rate(0, 0)),
+            (rate(0, 0), rate(3, 7)),
+            (rate(-1, 0), rate(1, 0)),
+            (rate(HIGH, 0), rate(LOW, MOST)),
+        ],
+    )
+}
+
+fn equal_feerates(rt: &impl Print) -> io::Result<()> {
+    compare(
+        rt,
+        &[
+            (rate(1, 2), rate(2, 4)),
+            (rate(2, 4), rate(1, 2)),
+            (rate(1, 2), rate(1, 2)),
+            (rate(0, 5), rate(0, 9)),
+            (rate(-1, 2), rate(-2, 4)),
+            (rate(HIGH, MOST), rate(HIGH, MOST)),
+            (
+                rate(4_611_686_018_427_387_903, 9_223_372_036_854_775_807),
+                rate(9_223_372_036_854_775_806, MOST - 1),
+            ),
+        ],
+    )
 }
 
 // Around the widest fee and size that one word serves, and where a product of 64 bits or a float would err.
-fn ends_of_one_word() {
+fn ends_of_one_word(rt: &impl Print) -> io::Result<()> {
     compare(
-        rate(34_359_738_368, 268_435_455),
-        rate(34_359_738_367, 268_435_455),
-    );
-    compare(
-        rate(34_359_738_368, 268_435_456),
-        rate(34_359_738_367, 268_435_454),
-    );
-    compare(
-        rate(34_359_738_369, 268_435_455),
-        rate(34_359_738_368, 268_435_453),
-    );
-    compare(
-        rate(-34_359_738_368, 268_435_455),
-        rate(-34_359_738_368, 268_435_454),
-    );
-    compare(
-        rate(-34_359_738_369, 268_435_456),
-        rate(-34_359_738_368, 268_435_455),
-    );
-    compare(rate(4_294_967_296, 1), rate(1, 4_294_967_296));
-    compare(
-        rate(9_007_199_254_740_993, 1),
-        rate(9_007_199_254_740_992, 1),
-    );
+        rt,
+        &[
+            (
+                rate(34_359_738_368, 268_435_455),
+                rate(34_359_738_367, 268_435_455),
+            ),
+            (
+                rate(34_359_738_368, 268_435_456),
+                rate(34_359_738_367, 268_435_454),
+            ),
+            (
+                rate(34_359_738_369, 268_435_455),
+                rate(34_359_738_368, 268_435_453),
+            ),
+            (
+                rate(-34_359_738_368, 268_435_455),
+                rate(-34_359_738_368, 268_435_454),
+            ),
+            (
+                rate(-34_359_738_369, 268_435_456),
+                rate(-34_359_738_368, 268_435_455),
+            ),
+            (rate(4_294_967_296, 1), rate(1, 4_294_967_296)),
+            (
+                rate(9_007_199_254_740_993, 1),
+                rate(9_007_199_254_740_992, 1),
+            ),
+        ],
+    )
 }
 
 // Products near two to the 127, of which the first differ by one.
-fn ends_of_two_words() {
-    compare(rate(HIGH, MOST), rate(HIGH - 1, MOST - 2));
-    compare(rate(HIGH - 1, MOST - 2), rate(HIGH, MOST));
-    compare(rate(HIGH, MOST), rate(HIGH - 1, MOST));
-    compare(rate(HIGH, MOST), rate(HIGH, MOST - 1));
-    compare(rate(HIGH, 1), rate(1, MOST));
-    compare(rate(HIGH, MOST), rate(LOW, MOST));
-    compare(rate(LOW, MOST), rate(HIGH, 1));
+fn ends_of_two_words(rt: &impl Print) -> io::Result<()> {
+    compare(
+        rt,
+        &[
+            (rate(HIGH, MOST), rate(HIGH - 1, MOST - 2)),
+            (rate(HIGH - 1, MOST - 2), rate(HIGH, MOST)),
+            (rate(HIGH, MOST), rate(HIGH - 1, MOST)),
+            (rate(HIGH, MOST), rate(HIGH, MOST - 1)),
+            (rate(HIGH, 1), rate(1, MOST)),
+            (rate(HIGH, MOST), rate(LOW, MOST)),
+            (rate(LOW, MOST), rate(HIGH, 1)),
+        ],
+    )
 }
 
-fn negative_fees() {
-    compare(rate(-1, 1), rate(0, 1));
-    compare(rate(-1, 1), rate(-1, 2));
-    compare(rate(-3, 2), rate(-2, 2));
-    compare(rate(-1, 5), rate(1, 5));
-    compare(rate(-HIGH, MOST), rate(1 - HIGH, MOST - 2));
-    compare(rate(LOW, MOST), rate(LOW, MOST - 1));
-    compare(rate(LOW, MOST), rate(LOW + 1, MOST));
+fn negative_fees(rt: &impl Print) -> io::Result<()> {
+    compare(
+        rt,
+        &[
+            (rate(-1, 1), rate(0, 1)),
+            (rate(-1, 1), rate(-1, 2)),
+            (rate(-3, 2), rate(-2, 2)),
+            (rate(-1, 5), rate(1, 5)),
+            (rate(-HIGH, MOST), rate(1 - HIGH, MOST - 2)),
+            (rate(LOW, MOST), rate(LOW, MOST - 1)),
+            (rate(LOW, MOST), rate(LOW + 1, MOST)),
+        ],
+    )
+}
+
+fn compare(rt: &impl Print, cases: &[(FeeFrac, FeeFrac)]) -> io::Result<()> {
+    for &(a, b) in cases {
+        let higher = if a.higher_rate(b) {
+            "higher"
+        } else {
+            "not higher"
+        };
+        let rank = match a.rank(b) {
+            Ordering::Greater => "above",
+            Ordering::Less => "below",
+            Ordering::Equal => "equal",
+        };
+        println!(rt; "{} against {}: {higher}, rank {rank}", Shown(a), Shown(b))?;
+    }
+    Ok(())
 }
 
 fn rate(fee: i64, size: u64) -> FeeFrac {
     FeeFrac { fee, size }
 }
 
-fn show_sum(a: FeeFrac, b: FeeFrac) {
-    put_rate(a);
-    put(b" + ");
-    put_rate(b);
-    put(b" = ");
-    put_rate(a.add(b));
-    put(b"\n");
-}
+// A feerate as it is printed.
+#[derive(Clone, Copy)]
+struct Shown(FeeFrac);
 
-fn show_difference(a: FeeFrac, b: FeeFrac) {
-    put_rate(a);
-    put(b" - ");
-    put_rate(b);
-    put(b" = ");
-    put_rate(a.sub(b));
-    put(b"\n");
-}
-
-fn show_given_back(a: FeeFrac, b: FeeFrac) {
-    put_rate(a);
-    put(b" + b - b, b = ");
-    put_rate(b);
-    put(b": ");
-    put_rate(a.add(b).sub(b));
-    put(b"\n");
-}
-
-fn show_negated(a: FeeFrac) {
-    put(b"negated ");
-    put_rate(a);
-    put(b" = ");
-    put_rate(a.negate());
-    put(b"\n");
-}
-
-fn compare(a: FeeFrac, b: FeeFrac) {
-    put_rate(a);
-    put(b" against ");
-    put_rate(b);
-    if a.higher_rate(b) {
-        put(b": higher, rank ");
-    } else {
-        put(b": not higher, rank ");
+impl fmt::Display for Shown {
+    fn fmt<W: fmt::Write>(&self, f: &mut fmt::Formatter<W>) -> fmt::Result {
+        write!(f, "{}/{}", self.0.fee, self.0.size)
     }
-    put_order(a.rank(b));
-    put(b"\n");
-}
-
-fn put_order(o: Ordering) {
-    match o {
-        Ordering::Greater => put(b"above"),
-        Ordering::Less => put(b"below"),
-        Ordering::Equal => put(b"equal"),
-    }
-}
-
-fn put_rate(a: FeeFrac) {
-    put_fee(a.fee);
-    put(b"/");
-    io::print_decimal(STDOUT_FILENO, a.size);
-}
-
-fn put_fee(z: i64) {
-    if z < 0 {
-        put(b"-");
-        let below = 0 - (z + 1);
-        io::print_decimal(STDOUT_FILENO, (below as u64) + 1);
-        return;
-    }
-    io::print_decimal(STDOUT_FILENO, z as u64);
-}
-
-fn put(text: &[u8]) {
-    io::write_all(STDOUT_FILENO, text);
 }

@@ -4,48 +4,36 @@ use Prim.Native.Nat.{ℕ}
 use lib.ListN.{length}
 use borrow.Author.Rules.{rules}
 use Rattle.pool_reader.specs.Requests.{as_add}
-use Rattle.pool_reader.specs.Steps.{start_numbers, words_at}
-use Rattle.pool_reader.proofs.Reading.{txid_malformed, txid_at_lem, txid_is}
-use Rattle.pool_reader.proofs.Reading.{numbers_malformed, numbers_at, txids_malformed, txids_bytes, count_read}
+use Rattle.pool_reader.proofs.Reading.{txid_is, count_read}
 use Rattle.pool_reader.proofs.Asking.{no_txid_add, no_numbers_add, no_parents_add, is_add}
 use Rattle.pool_reader.proofs.read_add.Goals as goal
 
-pub returns-in_default : goal.returns-in_default
-returns-in_default c =
-    sym (no_txid_add _ (txid_malformed c.args.line.now c.args.from 0 c.args.txid.now c.read_txid.new.out c.in_default.is c.read_txid.ensures))
+pub returns-in_err-numbers : goal.returns-in_err-numbers
+returns-in_err-numbers c = rw c.from_residual.ensures (sym (no_txid_add _ c.in_err-numbers.ensures))
 
 pub read_numbers-requires : goal.read_numbers-requires
-read_numbers-requires c =
-    (txid_at_lem c.args.line.now c.args.from 0 c.args.txid.now c.read_txid.new.out c.in-At.is c.read_txid.ensures).place
+read_numbers-requires c = let t = c.in_ok-numbers.ensures in (search rules, t.place)
 
-pub returns-in_default-read_numbers : goal.returns-in_default-read_numbers
-returns-in_default-read_numbers c =
-    let t = txid_at_lem c.args.line.now c.args.from 0 c.args.txid.now c.read_txid.new.out c.in-At.is c.read_txid.ensures in
-    let values = c.read_numbers.new.values in
-    let long : length values ≡ 3 = search rules in
-    let e = numbers_malformed c.args.line.now c.in-At.numbers values c.in_default-read_numbers.is c.read_numbers.ensures in
-    sym (ap as_add t.words ∙ no_numbers_add t.word _ (ap (λ (k : ℕ). start_numbers k (words_at c.args.line.now c.in-At.numbers)) (sym long) ∙ e))
+pub returns-in_err-fee : goal.returns-in_err-fee
+returns-in_err-fee c =
+    let t = c.in_ok-numbers.ensures in
+    rw c.from_residual-in_err-fee.ensures (sym (ap as_add t.words ∙ no_numbers_add t.word _ c.in_err-fee.ensures))
 
 pub read_txids-requires : goal.read_txids-requires
-read_txids-requires c = record {
-  place = (numbers_at c.args.line.now c.in-At.numbers c.read_numbers.new.values c.in-At-read_numbers.is c.read_numbers.ensures).place;
-  out_len = search rules;
-}
+read_txids-requires c = let n = c.in_ok-fee.ensures in record { place = n.1.place; out_len = search rules }
 
-pub returns-in_default-read_txids : goal.returns-in_default-read_txids
-returns-in_default-read_txids c =
-    let t = txid_at_lem c.args.line.now c.args.from 0 c.args.txid.now c.read_txid.new.out c.in-At.is c.read_txid.ensures in
-    let n = numbers_at c.args.line.now c.in-At.numbers c.read_numbers.new.values c.in-At-read_numbers.is c.read_numbers.ensures in
-    let long : length c.read_numbers.new.values ≡ 3 = search rules in
-    let e = txids_malformed c.args.line.now c.in-At-read_numbers.rest c.read_txids.new.out c.in_default-read_txids.is c.read_txids.ensures in
-    sym (ap as_add (t.words ∙ ap (λ (ws : List (List ℕ)). t.word ∷ ws) n.words) ∙ no_parents_add t.word n.read _ (sym (count_read n) ∙ long) e)
+pub returns-in_err-listed : goal.returns-in_err-listed
+returns-in_err-listed c =
+    let t = c.in_ok-numbers.ensures in
+    let n = c.in_ok-fee.ensures in
+    rw c.from_residual-in_err-listed.ensures
+    (sym (ap as_add (t.words ∙ ap (λ (ws : List (List ℕ)). t.word ∷ ws) n.1.words) ∙ no_parents_add t.word n.1.read _ (count_read 3 n.0 n.1) c.in_err-listed.ensures))
 
 pub returns : goal.returns
 returns c =
-    let t = txid_at_lem c.args.line.now c.args.from 0 c.args.txid.now c.read_txid.new.out c.in-At.is c.read_txid.ensures in
-    let n = numbers_at c.args.line.now c.in-At.numbers c.read_numbers.new.values c.in-At-read_numbers.is c.read_numbers.ensures in
-    let long : length c.read_numbers.new.values ≡ 3 = search rules in
-    let ps = txids_bytes c.args.line.now c.in-At-read_numbers.rest c.read_txids.new.out c.in-Bytes.is c.read_txids.ensures in
+    let t = c.in_ok-numbers.ensures in
+    let n = c.in_ok-fee.ensures in
+    let ps = c.in_ok-listed.ensures in
     let size : length c.args.txid.now ≡ 32 = search rules in
-    rw (txid_is size t, n.are, ps.bytes)
-    (sym (ap as_add (t.words ∙ ap (λ (ws : List (List ℕ)). t.word ∷ ws) n.words) ∙ is_add t.word n.read _ (sym (count_read n) ∙ long) t.hex n.numbers ps.are))
+    rw (txid_is size t, n.1.are, ps.bytes)
+    (sym (ap as_add (t.words ∙ ap (λ (ws : List (List ℕ)). t.word ∷ ws) n.1.words) ∙ is_add t.word n.1.read _ (count_read 3 n.0 n.1) t.hex n.1.numbers ps.are))

@@ -1,16 +1,12 @@
-use mathlib.Core.Path.{◌≡◌, sym, ◌∙◌}
-use lib.ListN.{length}
-use borrow.Author.Rules.{rules}
+use mathlib.Core.Path.{sym}
+use Rattle.pool_reader.proofs.Reading.{only_none, only_some}
 use Rattle.pool_reader.proofs.Asking.{no_mark, is_mark}
 use Rattle.pool_reader.proofs.read_mark.Goals as goal
 
-pub returns-then-not-only_numbers : goal.returns-then-not-only_numbers
-returns-then-not-only_numbers c =
-    let long : length c.only_numbers.new.values ≡ 2 = search rules in
-    λ x ps. sym (no_mark _ c.only_numbers.new.values long (sym c.only_numbers.ensures.value ∙ c.if-not-only_numbers.true))
+pub returns-in_err-slot : goal.returns-in_err-slot
+returns-in_err-slot c = λ x ps. rw c.from_residual.ensures (sym (no_mark _ (only_none _ _ c.in_err-slot.ensures)))
 
 pub returns : goal.returns
 returns c =
-    let long : length c.only_numbers.new.values ≡ 2 = search rules in
-    let yes = c.if-not-only_numbers.false in
-    λ x ps. sym (is_mark _ c.only_numbers.new.values long (sym c.only_numbers.ensures.value ∙ yes) (c.only_numbers.ensures.values_after yes))
+    let read = only_some _ _ c.in_ok-slot.ensures in
+    λ x ps. sym (is_mark _ c.in_ok-slot.field-0 read.1 read.0)

@@ -8,6 +8,7 @@ use Rattle.texts.specs.Places.{place_of}
 use Rattle.texts.proofs.Places.{place_le}
 use Rattle.pool_reader.specs.Requests.{longest_line, request_of, by_word}
 use Rattle.pool_reader.specs.Steps.{words_at, Place}
+use Rattle.pool_reader.proofs.Reading.{word_is}
 use Rattle.pool_reader.proofs.Asking.{too_long, by_word_lem, first_within, by_add, by_remove, by_set_cost, by_plain}
 use Rattle.pool_reader.proofs.read_request.Goals as goal
 
@@ -40,47 +41,41 @@ read_set_cost-requires c = behind c.args.line.now c.place-end.result c.if-line-g
 pub read_plain-requires : goal.read_plain-requires
 read_plain-requires c = behind c.args.line.now c.place-end.result c.if-line-gt-LONGEST.false c.place-end.ensures
 
-pub returns-then-is_word : goal.returns-then-is_word
-returns-then-is_word c =
+pub returns-then-eq : goal.returns-then-eq
+returns-then-eq c =
     let asked = asks c.args.line.now c.place-end.result c.if-line-gt-LONGEST.false c.place-end.ensures in
-    c.read_add.ensures ∙ sym (asked ∙ by_add _ _ (sym c.is_word.ensures ∙ c.if-is_word.true))
+    c.read_add.ensures ∙ sym (asked ∙ by_add _ _ (word_is (take c.place-end.result c.args.line.now) c.as_slice.result.now _ c.eq.ensures c.as_slice.ensures ∙ c.if-eq.true))
 
-pub returns-then-is_word-2 : goal.returns-then-is_word-2
-returns-then-is_word-2 c =
+pub returns-then-eq-2 : goal.returns-then-eq-2
+returns-then-eq-2 c =
     let asked = asks c.args.line.now c.place-end.result c.if-line-gt-LONGEST.false c.place-end.ensures in
-    c.read_remove.ensures _ ∙ sym (asked ∙ by_remove _ _ (sym c.is_word.ensures ∙ c.if-is_word.false) (sym c.is_word-2.ensures ∙ c.if-is_word-2.true))
+    c.read_remove.ensures _ ∙ sym (asked ∙ by_remove _ _ (word_is (take c.place-end.result c.args.line.now) c.as_slice.result.now _ c.eq.ensures c.as_slice.ensures ∙ c.if-eq.false) (word_is (take c.place-end.result c.args.line.now) c.as_slice-2.result.now _ c.eq-2.ensures c.as_slice-2.ensures ∙ c.if-eq-2.true))
 
-pub returns-then-is_word-3 : goal.returns-then-is_word-3
-returns-then-is_word-3 c =
+pub returns-then-eq-3 : goal.returns-then-eq-3
+returns-then-eq-3 c =
     let asked = asks c.args.line.now c.place-end.result c.if-line-gt-LONGEST.false c.place-end.ensures in
     c.read_set_cost.ensures _
-    ∙ sym (asked ∙ by_set_cost _ _ (sym c.is_word.ensures ∙ c.if-is_word.false) (sym c.is_word-2.ensures ∙ c.if-is_word-2.false)
-    (sym c.is_word-3.ensures ∙ c.if-is_word-3.true))
+    ∙ sym (asked ∙ by_set_cost _ _ (word_is (take c.place-end.result c.args.line.now) c.as_slice.result.now _ c.eq.ensures c.as_slice.ensures ∙ c.if-eq.false) (word_is (take c.place-end.result c.args.line.now) c.as_slice-2.result.now _ c.eq-2.ensures c.as_slice-2.ensures ∙ c.if-eq-2.false)
+    (word_is (take c.place-end.result c.args.line.now) c.as_slice-3.result.now _ c.eq-3.ensures c.as_slice-3.ensures ∙ c.if-eq-3.true))
 
 pub returns : goal.returns
 returns c =
     let asked = asks c.args.line.now c.place-end.result c.if-line-gt-LONGEST.false c.place-end.ensures in
     c.read_plain.ensures _ _
-    ∙ sym (asked ∙ by_plain _ _ (sym c.is_word.ensures ∙ c.if-is_word.false) (sym c.is_word-2.ensures ∙ c.if-is_word-2.false)
-    (sym c.is_word-3.ensures ∙ c.if-is_word-3.false))
+    ∙ sym (asked ∙ by_plain _ _ (word_is (take c.place-end.result c.args.line.now) c.as_slice.result.now _ c.eq.ensures c.as_slice.ensures ∙ c.if-eq.false) (word_is (take c.place-end.result c.args.line.now) c.as_slice-2.result.now _ c.eq-2.ensures c.as_slice-2.ensures ∙ c.if-eq-2.false)
+    (word_is (take c.place-end.result c.args.line.now) c.as_slice-3.result.now _ c.eq-3.ensures c.as_slice-3.ensures ∙ c.if-eq-3.false))
 
-pub slice_bounds-is_word-end : goal.slice_bounds-is_word-end
-slice_bounds-is_word-end c = whole c.args.line.now c.place-end.result c.if-line-gt-LONGEST.false c.place-end.ensures
-
-pub slice_bounds-is_word-end-3 : goal.slice_bounds-is_word-end-3
-slice_bounds-is_word-end-3 c = whole c.args.line.now c.place-end.result c.if-line-gt-LONGEST.false c.place-end.ensures
-
-pub slice_bounds-is_word-end-5 : goal.slice_bounds-is_word-end-5
-slice_bounds-is_word-end-5 c = whole c.args.line.now c.place-end.result c.if-line-gt-LONGEST.false c.place-end.ensures
+pub slice_bounds-word-end : goal.slice_bounds-word-end
+slice_bounds-word-end c = whole c.args.line.now c.place-end.result c.if-line-gt-LONGEST.false c.place-end.ensures
 
 pub overflow_add-end : goal.overflow_add-end
 overflow_add-end c =
     omega (arith, within c.args.line.now c.place-end.result c.if-line-gt-LONGEST.false c.place-end.ensures, c.if-line-gt-LONGEST.false)
 
-pub overflow_add-end-then-is_word-2 : goal.overflow_add-end-then-is_word-2
-overflow_add-end-then-is_word-2 c =
+pub overflow_add-end-then-eq-2 : goal.overflow_add-end-then-eq-2
+overflow_add-end-then-eq-2 c =
     omega (arith, within c.args.line.now c.place-end.result c.if-line-gt-LONGEST.false c.place-end.ensures, c.if-line-gt-LONGEST.false)
 
-pub overflow_add-end-then-is_word-3 : goal.overflow_add-end-then-is_word-3
-overflow_add-end-then-is_word-3 c =
+pub overflow_add-end-then-eq-3 : goal.overflow_add-end-then-eq-3
+overflow_add-end-then-eq-3 c =
     omega (arith, within c.args.line.now c.place-end.result c.if-line-gt-LONGEST.false c.place-end.ensures, c.if-line-gt-LONGEST.false)

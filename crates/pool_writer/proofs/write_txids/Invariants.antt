@@ -1,5 +1,4 @@
 use mathlib.Core.Path.{◌≡◌}
-use Prim.Native.Nat.{◌-◌}
 use lib.ListN.{length}
 use Rattle.texts.specs.Writing.{joined}
 use Rattle.texts.specs.Rooms.{Room}
@@ -9,6 +8,3 @@ use Rattle.pool_writer.proofs.write_txids.Given as goal
 
 abbrev pub invariant-loop-k : goal.invariant-loop-k
 invariant-loop-k l = (length l.out ≡ length l.initial.out) × (Room (joined (slot_text l.table) l.slots) l.from l.initial.out → ItemsLeft (slot_text l.table) l.slots l.k l.at l.from l.out l.initial.out)
-
-abbrev pub decreases-loop-k : goal.decreases-loop-k
-decreases-loop-k l = length l.slots - l.k

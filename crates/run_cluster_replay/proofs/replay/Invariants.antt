@@ -1,9 +1,6 @@
-use Prim.Native.Nat.{◌-◌, ◌≤◌}
-use lib.ListN.{length}
+use Rattle.std.proofs.Common.{length, ◌-◌}
 use Rattle.run_cluster_replay.proofs.replay.Given as goal
 
-abbrev pub invariant-loop-from : goal.invariant-loop-from
-invariant-loop-from l = l.from ≤ length l.input
-
+-- each case has a byte, so less is left behind it
 abbrev pub decreases-loop-from : goal.decreases-loop-from
-decreases-loop-from l = length l.input - l.from
+decreases-loop-from g l = length l.input - l.from

@@ -1,25 +1,16 @@
-use mathlib.Core.Path.{refl, sym, ◌∙◌}
-use lib.ListN.{length}
-use borrow.Author.Tests.{lt-ltb, le-ltb, ltb-true}
-use Rattle.lists.proofs.Bools.{clash}
-use mathlib.Core.Logic.{⊎_elim}
-use Rattle.lists.proofs.Numbers.{lt_or_ge}
-use Rattle.pool_reader.proofs.Reading.{numbers_malformed, numbers_at, not_only, numbers_end, numbers_more}
+use Rattle.pool_reader.proofs.Reading.{not_only, numbers_end, numbers_more}
 use Rattle.pool_reader.proofs.words.only_numbers.Goals as goal
 
-pub returns-in_default : goal.returns-in_default
-returns-in_default c =
-    let none = numbers_malformed c.args.text.now c.args.from c.read_numbers.new.values c.in_default.is c.read_numbers.ensures in
-    record { value = sym (not_only _ c.read_numbers.new.values none); values_after = λ e. clash e refl }
+pub returns-in_err-values : goal.returns-in_err-values
+returns-in_err-values g c = rw (c.from_residual.ensures, not_only g.row.N _ c.in_err-values.ensures)
+
+pub returns-then-end-text : goal.returns-then-end-text
+returns-then-end-text g c =
+    let n = c.in_ok-values.ensures in
+    rw (numbers_more g.row.N n.0 n.1 c.if-end-text.true)
 
 pub returns : goal.returns
-returns c =
-    let text = c.args.text.now in
-    let n = numbers_at text c.args.from c.read_numbers.new.values c.in-At.is c.read_numbers.ensures in
-    let end = c.in-At.end in
-    record {
-      value =
-          ⊎_elim (λ l. lt-ltb (length text) end l ∙ sym (numbers_end n l).0) (λ l. le-ltb (length text) end l ∙ sym (numbers_more n l))
-          (lt_or_ge (length text) end);
-      values_after = λ e. (numbers_end n (ltb-true (length text) end e)).1;
-    }
+returns g c =
+    let n = c.in_ok-values.ensures in
+    let all = numbers_end g.row.N n.0 n.1 c.if-end-text.false in
+    rw (all.0, all.1)

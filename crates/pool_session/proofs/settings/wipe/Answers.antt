@@ -1,28 +1,30 @@
-use lib.IntN.{pos}
-use native.Mathlib.Omega.{arith}
-use Rattle.pool_session.proofs.Memory.{wipes_none, wipes_past, wipes_one}
+use mathlib.Core.Path.{◌≡◌, refl, sym}
+use mathlib.Core.List.{List}
+use Prim.Native.Nat.{ℕ}
+use Rattle.std.proofs.Common.{Result, Ok, Err}
+use borrow.Author.Tests.{ne_eqb}
+use Rattle.refusals.specs.declared.Refusal.{Refusal}
+use Rattle.refusals.specs.Refusals.{number_of}
+use Rattle.refusals.proofs.Outcomes.{no_success}
+use Rattle.pool_rules.specs.Calls.{placed_from}
+use lib.Seq.{set_out}
+use Rattle.pool_session.specs.Session.{wiped}
 use Rattle.pool_session.proofs.settings.wipe.Goals as goal
 
-pub returns-then-reply-ne0 : goal.returns-then-reply-ne0
-returns-then-reply-ne0 c = record {
-  deltas_after = wipes_none c.args.n c.args.deltas.now c.requires.0 c.args.reply (pos 0) c.if-reply-ne0.true;
-  marks_after = wipes_none c.args.n c.args.marks.now c.requires.1 c.args.reply 0 c.if-reply-ne0.true;
-}
+-- nothing is wiped after a refusal
+after_refusal : {A : Type 0} (reply : Result ℕ Refusal) (none : A) (xs : List A) → ((s : ℕ) → reply ≡ Ok s → ⊥) → xs ≡ wiped (placed_from reply) none xs
+unfolding wiped
+after_refusal (Ok s) none xs n = absurd (n s refl)
+after_refusal (Err r) none xs n = rw (ne_eqb (number_of r) 0 (no_success r))
 
-pub returns-then-n-slot : goal.returns-then-n-slot
-returns-then-n-slot c = record {
-  deltas_after = wipes_past c.args.n c.args.deltas.now c.requires.0 c.args.reply (pos 0) c.if-reply-ne0.false c.if-n-slot.true;
-  marks_after = wipes_past c.args.n c.args.marks.now c.requires.1 c.args.reply 0 c.if-reply-ne0.false c.if-n-slot.true;
-}
+pub returns-in_default : goal.returns-in_default
+returns-in_default g c = after_refusal _ _ _ (λ s e. c.in_default.not-Ok s e)
+
+pub returns-then-settings-slot : goal.returns-then-settings-slot
+unfolding wiped
+returns-then-settings-slot g c =
+    rw c.in-Ok.is (sym (set_out c.args.settings.now c.in-Ok.slot c.args.none c.if-settings-slot.true))
 
 pub returns : goal.returns
-returns c = record {
-  deltas_after = wipes_one c.args.n c.args.deltas.now c.requires.0 c.args.reply (pos 0) c.if-reply-ne0.false c.if-n-slot.false;
-  marks_after = wipes_one c.args.n c.args.marks.now c.requires.1 c.args.reply 0 c.if-reply-ne0.false c.if-n-slot.false;
-}
-
-pub slice_set_of-deltas : goal.slice_set_of-deltas
-slice_set_of-deltas c = omega (arith, c.requires.0, c.if-n-slot.false)
-
-pub bounds-marks-slot : goal.bounds-marks-slot
-bounds-marks-slot c = omega (arith, c.requires.1, c.if-n-slot.false)
+unfolding wiped
+returns g c = rw c.in-Ok.is
