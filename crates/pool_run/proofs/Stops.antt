@@ -2,7 +2,7 @@
 use mathlib.Core.Path.{◌≡◌, ◌∙◌}
 use mathlib.Core.Bool.{true}
 use mathlib.Core.List.{List, ◌++◌}
-use Prim.Native.Nat.{ℕ, suc, ◌+◌, ◌-◌, ◌≤◌, ◌<◌}
+use Prim.Native.Nat.{ℕ, suc, ◌+◌, ◌≤◌, ◌<◌}
 use native.Mathlib.Omega.{arith}
 use lib.ListN.{length, take, length-append}
 use lib.Seq.{length-take-le}
@@ -10,7 +10,7 @@ use Rattle.pool_session.specs.Program.{last_number}
 use Rattle.pool_run.specs.declared.Desk.{Desk}
 use Rattle.pool_run.specs.Reads.{held}
 use Rattle.pool_run.specs.Standing.{Stands}
-use Rattle.pool_run.specs.Stops.{Behind, Stopped}
+use Rattle.pool_run.specs.Stops.{Behind}
 
 -- ---- a turn: what a read gave was taken in
 

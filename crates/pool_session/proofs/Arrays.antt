@@ -1,13 +1,11 @@
 -- The start of an array that is written anew, as a session's table and settings are. Assumes nothing.
-use mathlib.Core.Path.{◌≡◌, refl, sym, ap, ◌∙◌}
-use mathlib.Core.List.{List, [], ◌∷◌, ◌++◌, append_assoc}
-use Prim.Native.Nat.{ℕ, suc, ◌+◌, ◌≤◌, ◌<◌}
-use native.Mathlib.Numerals.{add-one}
-use native.Mathlib.Omega.{arith}
+use mathlib.Core.Path.{◌≡◌, sym, ap, ◌∙◌}
+use mathlib.Core.List.{List, ◌++◌}
+use Prim.Native.Nat.{ℕ, ◌≤◌}
 use lib.Dec.{eqb}
-use lib.ListN.{length, get_or, take, drop, set, replicate, length-append, length-drop, length-set, length-replicate}
-use lib.ListN.{replicate-append-replicate, take-append-drop}
-use lib.Seq.{length-take-le, set-append_left, set_out, set_at, drop-cons}
+use lib.ListN.{length, take, drop, replicate, length-set, length-replicate}
+use lib.ListN.{take-append-drop}
+use lib.Seq.{length-take-le}
 use borrow.Author.Tests.{ne_eqb, eq-eqb}
 use Rattle.lists.specs.Lists.{overwrite}
 use Rattle.lists.proofs.Bools.{cond_where}

@@ -1,20 +1,18 @@
 -- From what a request's function says to what its line leaves. Assumes nothing.
-use mathlib.Core.Path.{◌≡◌, refl, sym, ap, ◌∙◌}
+use mathlib.Core.Path.{◌≡◌, sym, ap, ◌∙◌}
 use mathlib.Core.Bool.{true, false}
 use mathlib.Core.List.{List, ◌++◌}
-use Prim.Native.Nat.{ℕ, ◌≤◌, ◌<◌}
+use Prim.Native.Nat.{ℕ, ◌≤◌}
 use native.Mathlib.Omega.{arith}
-use lib.Dec.{eqb, ltb}
+use lib.Dec.{eqb}
 use lib.IntN.{ℤ, pos}
 use lib.ListN.{length, take, drop, set, replicate, length-append, length-set, length-replicate}
 use lib.Seq.{length-take-le, take-append_seam, take_all}
-use borrow.Author.Tests.{eq-eqb, ne_eqb, eqb-true, eqb-false, ltb-true, ltb-false}
+use borrow.Author.Tests.{eq-eqb, ne_eqb, eqb-false}
 use Rattle.lists.specs.Lists.{overwrite}
 use Rattle.lists.proofs.Bools.{cases, cond_where}
 use Rattle.refusals.specs.declared.Reply.{Reply}
-use Rattle.refusals.specs.declared.Refusal.{Refusal}
-use Rattle.refusals.specs.Refusals.{number_of, answer_of, reply_of, kept_unless}
-use Rattle.std.proofs.Common.{Result, Ok, Err}
+use Rattle.refusals.specs.Refusals.{answer_of, reply_of, kept_unless}
 use Rattle.slotsets.specs.SlotSets.{capacity}
 use Rattle.txids.specs.declared.Txid.{Txid}
 use Rattle.pool_table.specs.declared.Entry.{Entry}

@@ -1,6 +1,5 @@
 use mathlib.Core.Path.{sym, ◌∙◌}
 use mathlib.Core.List.{◌++◌, append-nil}
-use native.Mathlib.Omega.{arith}
 use lib.ListN.{take}
 use lib.Seq.{take_all}
 use Rattle.lists.proofs.Bools.{clash}

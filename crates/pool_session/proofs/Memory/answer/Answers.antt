@@ -4,8 +4,8 @@ use Prim.Native.Nat.{ℕ}
 use Rattle.std.proofs.Common.{Some}
 use Rattle.pool_reader.specs.declared.Parsed.{Parsed}
 use Rattle.pool_reader.specs.Calls.{asked}
-use Rattle.pool_reader.specs.Requests.{request_of, malformed}
-use Rattle.pool_session.proofs.Steps.{asks, leaves_all}
+use Rattle.pool_reader.specs.Requests.{request_of}
+use Rattle.pool_session.proofs.Steps.{asks}
 use Rattle.pool_session.proofs.Memory.answer.Goals as goal
 
 -- the line asks for what was read

@@ -1,7 +1,7 @@
 use mathlib.Core.Path.{◌≡◌, refl, sym, ap, ◌∙◌}
 use native.Mathlib.Omega.{arith}
 use borrow.Author.Rules.{rules}
-use lib.ListN.{length, take}
+use lib.ListN.{length}
 use lib.Seq.{length-take-le}
 use Rattle.refusals.specs.declared.Reply.{Reply}
 use Rattle.refusals.specs.Refusals.{success}
@@ -9,7 +9,7 @@ use Rattle.slotsets.specs.SlotSets.{capacity}
 use Rattle.refusals.proofs.Outcomes.{no_success}
 use Rattle.pool_reader.specs.Requests.{template}
 use Rattle.pool_writer.specs.Answers.{number_text}
-use Rattle.pool_session.specs.Answers.{with_terms, lent_room}
+use Rattle.pool_session.specs.Answers.{with_terms}
 use Rattle.pool_session.specs.Memory.{lends, session_in}
 use Rattle.pool_session.proofs.Steps.{tells, leaves_all, Picked, picked, told_refused, told_selected}
 use Rattle.pool_session.proofs.Memory.template.Goals as goal
