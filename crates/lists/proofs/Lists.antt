@@ -4,18 +4,18 @@ use mathlib.Core.Path.{◌≡◌, refl, sym, ap, ap₂, ◌∙◌}
 use mathlib.Core.Bool.{Bool, true, false, not, ◌&&◌, ◌||◌, or-false, or-true, or_assoc, and-false, and_assoc, false≢true, and-eq-true_iff}
 use mathlib.Core.Logic.{◌⊎◌, inl, inr, ⊎_elim}
 use mathlib.Core.List.Memᴰ
-use mathlib.Core.List.{List, [], ◌∷◌, ◌++◌, Memᴰ}
-use Prim.Native.Nat.{ℕ, zero, suc, ◌+◌, ◌<◌}
+use mathlib.Core.List.{List, [], ◌∷◌, ◌++◌, append-nil, Memᴰ}
+use Prim.Native.Nat.{ℕ, zero, suc, ◌+◌, ◌≤◌, ◌<◌, min}
 use native.Mathlib.Nat.{not-suc-le-zero, le_of_suc-le-suc}
 use native.Mathlib.Numerals.{add-one}
 use native.Mathlib.Omega.{arith}
 use lib.Dec.{eqb}
-use lib.ListN.{length, get_or, set, drop, length-append}
-use lib.Seq.{drop-cons, set_at, append_snoc}
+use lib.ListN.{length, get_or, set, take, drop, length-append, drop_of_length-le}
+use lib.Seq.{drop-cons, set_at, append_snoc, take-suc, take_all, length-take-le}
 use borrow.Author.Tests.{eq-eqb, eqb-true, not-true}
 use Rattle.lists.specs.Lists.{any_of, all_of, elem, distinct, same}
 use Rattle.lists.proofs.Bools.{clash, and_both, or_left, or_right, or_either, without_or, cases}
-use Rattle.lists.proofs.Numbers.{flip}
+use Rattle.lists.proofs.Numbers.{flip, lt_or_ge}
 
 -- ---- two lists together
 
@@ -126,6 +126,34 @@ pub written_next : {A : Type 0} (new room : List A) (k : ℕ) (x : A) → length
     → set (new ++ drop k room) k x ≡ (new ++ (x ∷ [])) ++ drop (k + 1) room
 written_next new room k x e l =
     rw (add-one, drop-cons room k x l, set_at new (get_or room k x) (drop (suc k) room) x k e) (sym (append_snoc new x (drop (suc k) room)))
+
+-- ---- a list copied to the start of a room
+
+pub copied_next : {A : Type 0} (xs room : List A) (i : ℕ) (x : A) → i < length xs → i < length room → x ≡ get_or xs i x
+    → set (take i xs ++ drop i room) i x ≡ take (i + 1) xs ++ drop (i + 1) room
+copied_next {A} xs room i x h k e =
+    written_next (take i xs) room i x (length-take-le i xs (omega arith)) k
+    ∙ ap (λ (l : List A). l ++ drop (i + 1) room)
+    (ap (λ (y : A). take i xs ++ (y ∷ [])) e ∙ sym (take-suc xs i x h) ∙ ap (λ (n : ℕ). take n xs) (sym (add-one i)))
+
+-- as much as there is room for
+pub copied_most : {A : Type 0} (xs room : List A) (i : ℕ) → i ≡ min (length xs) (length room)
+    → take i xs ++ drop i room ≡ take (length room) xs ++ drop (length xs) room
+copied_most xs room i e =
+    ⊎_elim
+    (λ (l : length xs < length room).
+    let all : i ≡ length xs = omega (arith, e) in
+    rw (all, take_all (length xs) xs (omega arith), take_all (length room) xs (omega arith)))
+    (λ (l : length room ≤ length xs).
+    let all : i ≡ length room = omega (arith, e) in
+    ap₂ ◌++◌ (ap (λ (n : ℕ). take n xs) all)
+    (drop_of_length-le room {i = i} (omega (arith, all)) ∙ sym (drop_of_length-le room {i = length xs} l)))
+    (lt_or_ge (length xs) (length room))
+
+-- and all of it, where there is just the room
+pub copied_whole : {A : Type 0} (xs room : List A) → length room ≡ length xs → take (length room) xs ++ drop (length xs) room ≡ xs
+copied_whole xs room e =
+    ap₂ ◌++◌ (take_all (length room) xs (omega (arith, e))) (drop_of_length-le room (omega (arith, e))) ∙ append-nil xs
 
 -- ---- what stands before what
 

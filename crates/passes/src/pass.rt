@@ -1,7 +1,7 @@
 // One pass. The groups stand in an array from its start, the last on top; those that the current group stepped over wait at its end, the
 // last one lowest. The two never meet: besides the current group there are fewer of both together than members. The members of all
 // groups stand in the list itself, one group after the other, so that a merge moves nothing and a group that steps forward is one rotation.
-ghost use Rattle.std.specs.Prelude.{◌≡◌, ◌+◌, ◌≤◌, ◌<◌, ℕ, length};
+ghost use Rattle.std.specs.Prelude.{◌≡◌, ◌++◌, ◌+◌, ◌≤◌, ◌<◌, ℕ, length, take, drop};
 ghost use Rattle.txset.specs.Sets.{positions, mem_at};
 ghost use Rattle.passes.specs.Pass.{one_pass};
 ghost use Rattle.passes.specs.Moves.{brought};
@@ -126,7 +126,17 @@ fn rotate(order: &mut [usize], from: usize, ahead: usize, len: usize)
     ensures { order.new ≡ brought order.old from ahead len }
 {
     let end = from + (ahead + len);
-    order[from..end].rotate_left(ahead);
+    turn(&mut order[from..end], ahead);
+}
+
+// The first `ahead` go behind the others, by three turns: std's rotate_left asks for C's `memmove` where a library is linked.
+fn turn(list: &mut [usize], ahead: usize)
+    requires { ahead ≤ length list.old }
+    ensures { list.new ≡ drop ahead list.old ++ take ahead list.old }
+{
+    list[..ahead].reverse();
+    list[ahead..].reverse();
+    list.reverse();
 }
 
 // The pass over a list of up to as many members as a set has positions, whose feerates `rate` gives.

@@ -127,16 +127,19 @@ pub fn is_legal(table: &[u64]) -> bool
     HEADER + n * ROW == table.len()
 }
 
-// The words of a slot's row; none where there is no such slot. Every read of a slot asks this once, a test that a loop over the slots need
-// not repeat.
+// The words of a slot's row; none where there is no such slot. Every read of a slot asks this once. Of a slot that a pool can have it asks the
+// row's end, since a compare of two txids in a sort would divide each time.
 fn row(table: &[u64], s: usize) -> Option<&[u64]>
     ensures { MatchOption result (slot_count (pool_of table.now) ≤ s) (λ r. IsRow (pool_of table.now) s r.now) }
 {
-    if slots(table) <= s {
+    if CAPACITY <= s && slots(table) <= s {
         return None;
     }
     let from = HEADER + s * ROW;
     let end = from + ROW;
+    if table.len() < end {
+        return None;
+    }
     Some(&table[from..end])
 }
 

@@ -18,6 +18,7 @@ mod collect;
 mod tests;
 
 use feefrac::FeeFrac;
+use lists::copy;
 use refusals::Refusal;
 use template_rules::Terms;
 use tests::{Outcome, Turn, Used};
@@ -116,7 +117,7 @@ fn select_block_template(
         table, marks, terms, count, members, firsts, ups, listed, starts, fees, sizes, order,
         bounds,
     );
-    room[..n].copy_from_slice(&bounds[..n]);
+    copy(&bounds[..n], &mut room[..n]);
     Ok(n)
 }
 

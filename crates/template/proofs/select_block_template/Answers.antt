@@ -6,6 +6,7 @@ use Prim.Native.Nat.{ℕ, ◌≤◌, ◌<◌}
 use native.Mathlib.Omega.{arith}
 use lib.ListN.{length, take, drop, length-take}
 use Rattle.lists.specs.Lists.{overwrite}
+use Rattle.lists.proofs.Lists.{copied_whole}
 use lib.Seq.{length-take-le}
 use Rattle.std.proofs.Common.{Ok, Err}
 use Rattle.std.proofs.lemmas.Result.{IfOk-at_ok, err_from_is_err_and}
@@ -96,6 +97,9 @@ module _ (c : After-checked) where
       room_fits : n ≤ length room
       room_fits = omega (arith, f.count, template_fits t well w, (parts_of t w room takes).2)
 
+      places : length (take n room) ≡ length (take n picked)
+      places = length-take-le n room room_fits ∙ sym (length-take-le n picked fits)
+
       copied : {new : List ℕ} → new ≡ take n picked → new ++ drop n room ≡ overwrite (take n picked) room
       copied e = rw (e, length-take-le n picked fits)
 
@@ -115,31 +119,26 @@ fill-n-requires c = let d = (goal.at.fill-n-requires c).After-checked in
       table_in_bounds = omega (arith, (rooms d c.in_ok-count.was).0, kept.bounds);
     }
 
-pub copy_from_slice-requires : goal.copy_from_slice-requires
-copy_from_slice-requires c = let d = (goal.at.copy_from_slice-requires c).After-checked in
-    let filled = c.fill-n.ensures c.args.deltas.now (sorted d c.in_ok-count.was) in
-    length-take-le _ _ (room_fits d c.in_ok-count.was filled) ∙ sym (length-take-le _ _ (fits d c.in_ok-count.was filled))
-
-pub slice_bounds-copy_from_slice-end : goal.slice_bounds-copy_from_slice-end
-slice_bounds-copy_from_slice-end c = let d = (goal.at.slice_bounds-copy_from_slice-end c).After-checked in
-    room_fits d c.in_ok-count.was (c.fill-n.ensures c.args.deltas.now (sorted d c.in_ok-count.was))
-
-pub slice_bounds-copy_from_slice-end-2 : goal.slice_bounds-copy_from_slice-end-2
-slice_bounds-copy_from_slice-end-2 c = let d = (goal.at.slice_bounds-copy_from_slice-end-2 c).After-checked in
-    sym (length-take-le _ _ (room_fits d c.in_ok-count.was (c.fill-n.ensures c.args.deltas.now (sorted d c.in_ok-count.was))))
-
-pub slice_bounds-copy_from_slice-end-3 : goal.slice_bounds-copy_from_slice-end-3
-slice_bounds-copy_from_slice-end-3 c = let d = (goal.at.slice_bounds-copy_from_slice-end-3 c).After-checked in
+pub slice_bounds-copy-end : goal.slice_bounds-copy-end
+slice_bounds-copy-end c = let d = (goal.at.slice_bounds-copy-end c).After-checked in
     fits d c.in_ok-count.was (c.fill-n.ensures c.args.deltas.now (sorted d c.in_ok-count.was))
 
-pub slice_bounds-copy_from_slice-end-4 : goal.slice_bounds-copy_from_slice-end-4
-slice_bounds-copy_from_slice-end-4 c = let d = (goal.at.slice_bounds-copy_from_slice-end-4 c).After-checked in
+pub slice_bounds-copy-end-2 : goal.slice_bounds-copy-end-2
+slice_bounds-copy-end-2 c = let d = (goal.at.slice_bounds-copy-end-2 c).After-checked in
     sym (length-take-le _ _ (fits d c.in_ok-count.was (c.fill-n.ensures c.args.deltas.now (sorted d c.in_ok-count.was))))
+
+pub slice_bounds-copy-end-3 : goal.slice_bounds-copy-end-3
+slice_bounds-copy-end-3 c = let d = (goal.at.slice_bounds-copy-end-3 c).After-checked in
+    room_fits d c.in_ok-count.was (c.fill-n.ensures c.args.deltas.now (sorted d c.in_ok-count.was))
+
+pub slice_bounds-copy-end-4 : goal.slice_bounds-copy-end-4
+slice_bounds-copy-end-4 c = let d = (goal.at.slice_bounds-copy-end-4 c).After-checked in
+    sym (length-take-le _ _ (room_fits d c.in_ok-count.was (c.fill-n.ensures c.args.deltas.now (sorted d c.in_ok-count.was))))
 
 pub returns : goal.returns
 returns c = let d = (goal.at.returns c).After-checked in
     let filled = c.fill-n.ensures c.args.deltas.now (sorted d c.in_ok-count.was) in
-    let answered = answered_filled (t d) (w d) (room d) (takes d c.in_ok-count.was) filled (copied d c.in_ok-count.was filled c.copy_from_slice.ensures.after) in
+    let answered = answered_filled (t d) (w d) (room d) (takes d c.in_ok-count.was) filled (copied d c.in_ok-count.was filled (c.copy.ensures ∙ copied_whole _ _ (places d c.in_ok-count.was filled))) in
     record { value = answered.0; room_after = answered.1 }
 
 pub shape_of-bounds : goal.shape_of-bounds

@@ -10,4 +10,4 @@ returns c =
     let args = c.args in
     let part = args.ahead + args.len in
     let e : args.from + part - args.from ≡ part = omega arith in
-    rw (c.rotate_left.ensures.after, e)
+    rw (c.turn.ensures, e)
