@@ -15,6 +15,7 @@ mod templates;
 use lines::{Call, Line};
 use pool_rules::{Placed, Totals};
 use pool_table::Limits;
+use printing::Out;
 use refusals::Refusal;
 
 // The descriptor of standard input.
@@ -35,7 +36,7 @@ struct Bench {
     marks: [u8; PLACES],
 }
 
-pub fn run(rt: &HostRuntime) {
+pub fn run() {
     let mut input = room();
     // stays: std reads a whole input to the heap alone.
     let len = io::read_full(STDIN_FILENO, &mut input);
@@ -46,7 +47,7 @@ pub fn run(rt: &HostRuntime) {
         marks: [0; PLACES],
     };
     for line in input[..len].split_inclusive(|b| *b == b'\n') {
-        bench.perform(rt, Line::of(line.strip_suffix(b"\n").unwrap_or(line)));
+        bench.perform(&Out, Line::of(line.strip_suffix(b"\n").unwrap_or(line)));
     }
 }
 

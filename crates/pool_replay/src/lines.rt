@@ -12,7 +12,7 @@ pub struct Line {
 
 impl Line {
     // A number ends at a space or with the line: a space at the end begins no further number, and between two spaces stands a 0.
-    pub fn of(text: &[u8]) -> Line {
+    pub(crate) fn of(text: &[u8]) -> Line {
         let mut numbers = [0u64; NUMBERS];
         for (number, word) in numbers.iter_mut().zip(text.split_inclusive(|b| *b == b' ')) {
             *number = decimal(word.strip_suffix(b" ").unwrap_or(word));

@@ -6,7 +6,7 @@ use template_rules::Terms;
 use weights::RawWeight;
 
 // A number, or with a sign of 1 as much below -1.
-pub fn delta_of(sign: u64, number: u64) -> i64 {
+pub(crate) fn delta_of(sign: u64, number: u64) -> i64 {
     let n = (number % 9_223_372_036_854_775_808) as i64;
     if sign == 1 { !n } else { n }
 }
@@ -22,7 +22,7 @@ fn places() -> [usize; PLACES] {
 
 impl Bench {
     // Prints the answer, the places written, sums over the room and the table, and the written places.
-    pub fn template(&self, rt: &impl Print, line: Line) {
+    pub(crate) fn template(&self, rt: &impl Print, line: Line) {
         let mut room = places();
         let reply = Reply::from(self.select(line, &mut room));
         let answer = reply.answer;

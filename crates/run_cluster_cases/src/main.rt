@@ -4,6 +4,7 @@
 
 #![tactic(auto)]
 
+use printing::Out;
 use refusals::{Refusal, Reply};
 use std::{fmt, io};
 
@@ -14,9 +15,9 @@ const HIGHEST: i64 = 4_200_000_000_000_000;
 
 const ABOVE: i64 = HIGHEST + 1;
 
-fn main(rt: HostRuntime) {
+fn main() {
     // The run ends well whatever became of its output, which is compared.
-    let _ = run(&rt);
+    let _ = run(&Out);
 }
 
 fn run(rt: &impl Print) -> io::Result<()> {

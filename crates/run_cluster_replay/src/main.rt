@@ -6,7 +6,9 @@
 
 ghost use Rattle.std.specs.Prelude.{◌≡◌, ◌≤◌, ◌<◌, length};
 
+use printing::Out;
 use refusals::Refusal;
+use std::fmt;
 use std::io::Result;
 use txset::{POSITIONS, SET_WORDS};
 
@@ -47,12 +49,12 @@ impl Call {
     }
 }
 
-fn main(rt: HostRuntime) {
+fn main() {
     let mut input = room();
     // stays: std reads a whole input to the heap alone.
     let len = io::read_full(STDIN_FILENO, &mut input);
     // The run ends well whatever became of its output, which is compared.
-    let _ = replay(&rt, &input[..len]);
+    let _ = replay(&Out, &input[..len]);
 }
 
 // What does not fit is left out, and then the run does not print what it should.
@@ -202,16 +204,25 @@ fn put_places(
     }
 }
 
-// A comma stands in front of each but the first.
+// A line in one write.
 fn put_numbers(rt: &impl Print, key: &str, numbers: &[usize]) -> Result<()> {
-    print!(rt; "{key}")?;
-    for (k, number) in numbers.iter().enumerate() {
-        if k != 0 {
-            print!(rt; ",")?;
+    println!(rt; "{key}{}", Commas(numbers))
+}
+
+// A comma stands in front of each but the first.
+#[derive(Clone, Copy)]
+struct Commas<'a>(&'a [usize]);
+
+impl fmt::Display for Commas<'_> {
+    fn fmt<W: fmt::Write>(&self, f: &mut fmt::Formatter<W>) -> fmt::Result {
+        for (k, number) in self.0.iter().enumerate() {
+            if k != 0 {
+                f.write_str(",")?;
+            }
+            write!(f, "{number}")?;
         }
-        print!(rt; "{number}")?;
+        Ok(())
     }
-    println!(rt; "")
 }
 
 fn put_refusal(rt: &impl Print, refusal: Refusal) -> Result<()> {

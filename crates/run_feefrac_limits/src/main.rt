@@ -3,6 +3,7 @@
 #![tactic(auto)]
 
 use feefrac::FeeFrac;
+use printing::Out;
 use std::cmp::Ordering;
 use std::{fmt, io};
 
@@ -12,9 +13,9 @@ const HIGH: i64 = i64::MAX;
 
 const LOW: i64 = i64::MIN;
 
-fn main(rt: HostRuntime) {
+fn main() {
     // The run ends well whatever became of its output, which is compared.
-    let _ = run(&rt);
+    let _ = run(&Out);
 }
 
 fn run(rt: &impl Print) -> io::Result<()> {

@@ -5,6 +5,6 @@
 
 #![tactic(auto)]
 
-fn main(rt: HostRuntime) {
-    pool_replay::run(&rt);
+fn main() {
+    pool_replay::run();
 }
