@@ -3,9 +3,9 @@
 
 #![tactic(auto)]
 
-ghost use Rattle.std.specs.Prelude.{◌≡◌, true, List, [], ◌∷◌, ◌++◌, ℕ, min, length};
+ghost use Rattle.std.specs.Prelude.{◌≡◌, true, List, [], ◌∷◌, ◌++◌, ℕ, ◌≤◌, min, length};
 ghost use Rattle.pool_session.specs.Program.{last_text};
-ghost use Rattle.pool_run.specs.Standing.{kept_length, Stands, Stood, Told, Holds};
+ghost use Rattle.pool_run.specs.Standing.{kept_length, Stands, Stood, Told, Holds, Responded};
 ghost use Rattle.pool_run.specs.Stops.{Stopped, Finished};
 
 mod reads;
@@ -19,7 +19,7 @@ use writes::Printed;
 const KEPT: usize = 8193;
 
 // What the program stands on: the session, the line that is being read with how many bytes of it are kept, and what was printed.
-#[derive(Drop)]
+#[derive(Clone, Copy)]
 pub struct Desk {
     memory: Memory,
     line: [u8; KEPT],
@@ -37,7 +37,7 @@ pub enum Stop {
 }
 
 // And where the program stands then.
-#[derive(Drop)]
+#[derive(Clone, Copy)]
 pub struct Last {
     stop: Stop,
     desk: Desk,
@@ -152,8 +152,7 @@ impl Desk {
         ensures { (input : List ℕ) → Stands input self.old → self.new.printed.is_open ≡ true → Stands (input ++ (10 ∷ [])) self.new }
     {
         let mut out = [0u8; 90_112];
-        let number = self.printed.number();
-        let n = self.memory.step(&self.line[..self.len], number, &mut out);
+        let n = self.respond(&mut out);
         self.printed = writes::write_answer(
             &out[..n],
             self.printed,
@@ -161,5 +160,16 @@ impl Desk {
             &self.memory,
         );
         self.len = 0;
+    }
+
+    // What the line asks for is done, and its answer stands in the room.
+    fn respond(&mut self, out: &mut [u8; 90_112]) -> usize
+        requires { self.old.len ≤ kept_length }
+        ensures responded { (input : List ℕ) (st : Stands input self.old)
+            → Responded st.lines st.pending self.old.printed.number self.new.memory out.new result }
+        ensures memory_alone { self.new ≡ record self.old { memory = self.new.memory } }
+    {
+        let number = self.printed.number();
+        self.memory.step(&self.line[..self.len], number, out)
     }
 }

@@ -29,7 +29,7 @@ const ROW: usize = 39;
 
 // How many slots the pool has, 0 before the first. Its table and its slots' settings stand at the start of the arrays.
 // stays: each method asks that there are at most 1,024 slots; as a ghost field of the struct it would not let a part of an array be lent.
-#[derive(Drop)]
+#[derive(Clone, Copy)]
 pub struct Memory {
     pub slots: usize,
     pub words: [u64; 39_940],
@@ -40,7 +40,7 @@ pub struct Memory {
 impl Memory {
     // Without a pool.
     pub fn new() -> Memory
-        ensures { result.slots ≡ 0 }
+        ensures { result ≡ record { slots = 0; words = replicate 39940 0; deltas = replicate 1024 (pos 0); marks = replicate 1024 0 } }
     {
         Memory {
             slots: 0,
