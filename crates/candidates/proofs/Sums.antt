@@ -22,10 +22,10 @@ use Rattle.candidates.proofs.Changes.{Changing, change_turn}
 
 module _ (sums : List FeeFrac) (d : ℕ) (r : FeeFrac) where
   -- r, put at d, is read there, and the others stay
-  read_same : d < length sums → sum_at (set sums d r) d ≡ r
+  pub read_same : d < length sums → sum_at (set sums d r) d ≡ r
   read_same l = get_or-set_same sums d r zero_rate l
 
-  read_other : (j : ℕ) → (j ≡ d → ⊥) → sum_at (set sums d r) j ≡ sum_at sums j
+  pub read_other : (j : ℕ) → (j ≡ d → ⊥) → sum_at (set sums d r) j ≡ sum_at sums j
   read_other j n = get_or-set_other sums d j r zero_rate n
 
   -- one more is as wanted

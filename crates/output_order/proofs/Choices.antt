@@ -57,7 +57,7 @@ scan_keeps above found (x ∷ xs) h =
     ap (λ (b : Bool). scan above (cond b x found) xs) (h x (elem_head x xs)) ∙ scan_keeps above found xs (λ i e. h i (elem_tail i x xs e))
 
 -- the lowest of a set is at or below each of it
-lowest_least : (s : TxSet) (j : ℕ) → mem s j ≡ true → lowest_of s ≤ j
+pub lowest_least : (s : TxSet) (j : ℕ) → mem s j ≡ true → lowest_of s ≤ j
 unfolding lowest_of
 lowest_least s j m =
     ⊎_elim (λ l. clash m ((first_is (mem s) positions 0).before j (omega arith) l)) (λ l. l) (lt_or_ge j (first_from (mem s) positions 0))

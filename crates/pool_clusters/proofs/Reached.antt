@@ -1,5 +1,5 @@
 -- The numbers below n that some number of a set is, or has a way to, along any relation that is bounded by n. Assumes nothing.
-use mathlib.Core.Path.{◌≡◌, refl, sym, ap, ap₂, ◌∙◌}
+use mathlib.Core.Path.{◌≡◌, refl, sym, ap, ap₂, ◌∙◌, subst}
 use mathlib.Core.Bool.{Bool, true, false, ◌&&◌, ◌||◌}
 use mathlib.Core.Logic.{⊎_elim}
 use Prim.Native.Nat.{ℕ, ◌<◌}
@@ -10,7 +10,7 @@ use Rattle.lists.specs.Below.{any_from, first_from}
 use Rattle.lists.proofs.Bools.{clash, and_both, true_together}
 use Rattle.lists.proofs.Below.{any_at, first_has, first_below}
 use Rattle.ways.specs.Ways.{Way, step, further, reach, Bounded}
-use Rattle.ways.proofs.Ways.{way_stays}
+use Rattle.ways.proofs.Ways.{way_stays, way_to}
 use Rattle.ways.proofs.Cycles.{onward, onward_self, onward_way, onward_either, onward_trans}
 
 abbrev pub reached : (ℕ → ℕ → Bool) → ℕ → (ℕ → Bool) → ℕ → Bool
@@ -60,6 +60,12 @@ module _ {r : ℕ → ℕ → Bool} {n : ℕ} (bound : Bounded r n) where
         chosen = u.chosen;
         on = onward_trans bound u.seed a b u.on (onward_way bound (step e));
       })
+
+  pub onward_below : (a b : ℕ) → a < n → onward r n a b ≡ true → b < n
+  onward_below a b l h = ⊎_elim (λ e. subst (λ (x : ℕ). x < n) e l) (λ u. way_to bound u) (onward_either r n a b h)
+
+  pub reached_below : (f : ℕ → Bool) (b : ℕ) → reached r n f b ≡ true → b < n
+  reached_below f b h = let u = reached_from r n f b h in onward_below u.seed b u.below u.on
 
 -- the set of one number
 pub reached_one : (r : ℕ → ℕ → Bool) (n : ℕ) (f : ℕ → Bool) (a : ℕ) → a < n → ((i : ℕ) → f i ≡ eqb i a) → (b : ℕ) → reached r n f b ≡ onward r n a b

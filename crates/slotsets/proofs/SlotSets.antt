@@ -124,6 +124,9 @@ set_is f ws e fits h =
     (λ (l : capacity ≤ i). set_past (set_of f) (set_long f) i l ∙ sym (set_past ws e i l))
     (lt_or_ge i capacity))
 
+pub set_own : (ws : List ℕ) → length ws ≡ set_words → Fits ws → set_of (has_in ws) ≡ ws
+set_own ws e fits = set_is (has_in ws) ws e fits (λ i l. refl)
+
 pub set_ext : (f g : ℕ → Bool) → ((i : ℕ) → i < capacity → f i ≡ g i) → set_of f ≡ set_of g
 set_ext f g h = set_is f (set_of g) (set_long g) (set_fits g) (λ i l. set_at g i l ∙ sym (h i l))
 

@@ -127,16 +127,16 @@ unfolding signed_of
 no_minus [] n e = absurd (n refl)
 no_minus (b ∷ bs) n e = rw (ne_eqb b 45 e)
 
-positive_large : (v : ℕ) → 9223372036854775807 < v → positive (Some v) ≡ None
+pub positive_large : (v : ℕ) → 9223372036854775807 < v → positive (Some v) ≡ None
 positive_large v l = rw (lt-leb v 9223372036854775807 l)
 
-positive_fits : (v : ℕ) → v ≤ 9223372036854775807 → positive (Some v) ≡ Some (pos v)
+pub positive_fits : (v : ℕ) → v ≤ 9223372036854775807 → positive (Some v) ≡ Some (pos v)
 positive_fits v l = rw (le-leb v 9223372036854775807 l)
 
-negative_large : (v : ℕ) → 9223372036854775808 < v → negative (Some v) ≡ None
+pub negative_large : (v : ℕ) → 9223372036854775808 < v → negative (Some v) ≡ None
 negative_large v l = rw (lt-leb v 9223372036854775808 l, and-false (ltb 0 v))
 
-negative_fits : (v : ℕ) → 0 < v → v ≤ 9223372036854775808 → negative (Some v) ≡ Some (negsuc (v - 1))
+pub negative_fits : (v : ℕ) → 0 < v → v ≤ 9223372036854775808 → negative (Some v) ≡ Some (negsuc (v - 1))
 negative_fits v h l = rw (lt-ltb 0 v h, le-leb v 9223372036854775808 l)
 
 -- a number as one with a sign, where it fits
